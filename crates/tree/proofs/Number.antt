@@ -1,0 +1,58 @@
+-- The number of a table from the conditions, one by one. Assumes nothing.
+use mathlib.Core.Path.{_≡_, refl, sym, ap, _∙_}
+use mathlib.Core.Logic.{_⊎_, inl, inr, ⊎-elim}
+use mathlib.Core.Bool.{Bool, true, false, _||_}
+use mathlib.Core.List.{List}
+use Rattle.tree.specs.Operations.{unlessRefused}
+use Prim.Native.Nat.{ℕ, zero, suc, _%_, _<_, _≤_}
+use native.Mathlib.Omega.{arith}
+use lib.ListN.{length}
+use Rattle.refusal.specs.First.{first}
+use Rattle.tree.specs.Table.{nodes}
+use Rattle.tree.specs.Forest.{treeOf, size}
+use Rattle.tree.specs.WellFormed.{badLength, badEntry, rootHasSibling, namedTwice, notReached, tableConditions, tableNumber, Passed}
+use Rattle.tree.proofs.Tests.{true-or-false}
+use Rattle.tree.proofs.Accepted.{linked, good-length, reached-size, size-reached}
+
+pub length-bad : (t : List ℕ) → (length t % 2 ≡ 1) ⊎ ((length t ≡ 0) ⊎ (2048 < length t)) → badLength t ≡ true
+length-bad t h = ⊎-elim (λ e. e) (λ e. absurd (no (good-length t e) h)) (true-or-false (badLength t))
+  where
+    no : (length t % 2 ≡ 0) × (0 < length t) × (length t ≤ 2048) → (length t % 2 ≡ 1) ⊎ ((length t ≡ 0) ⊎ (2048 < length t)) → ⊥
+    no g (inl e) = omega (arith, g .0)
+    no g (inr (inl e)) = omega (arith, g .1)
+    no g (inr (inr e)) = omega (arith, g .2)
+
+module _ (t : List ℕ) where
+  pub number-1 : badLength t ≡ true → tableNumber t ≡ 1
+  unfolding tableNumber tableConditions
+  number-1 a = simp a
+
+  pub number-2 : badLength t ≡ false → badEntry t ≡ true → tableNumber t ≡ 2
+  unfolding tableNumber tableConditions
+  number-2 a b = simp (a, b)
+
+  pub number-3 : badLength t ≡ false → badEntry t ≡ false → rootHasSibling t ≡ true → tableNumber t ≡ 3
+  unfolding tableNumber tableConditions
+  number-3 a b c = simp (a, b, c)
+
+  pub number-4 : badLength t ≡ false → badEntry t ≡ false → rootHasSibling t ≡ false → namedTwice t ≡ true → tableNumber t ≡ 4
+  unfolding tableNumber tableConditions
+  number-4 a b c d = simp (a, b, c, d)
+
+  -- where conditions 1 to 4 do not hold, how many nodes are reached decides
+  pub number-5 : Passed t → size (treeOf t) < nodes t → tableNumber t ≡ 5
+  unfolding tableNumber tableConditions
+  number-5 p h =
+      let e : notReached t ≡ true = ⊎-elim (λ e. e) (λ e. absurd (omega (arith, h, reached-size t (linked t p) e))) (true-or-false (notReached t)) in
+      simp (p .size, p .entries, p .root, p .named, e)
+
+  pub number-0 : Passed t → size (treeOf t) ≡ nodes t → tableNumber t ≡ 0
+  unfolding tableNumber tableConditions
+  number-0 p h =
+      let e : notReached t ≡ false = size-reached t (linked t p) h in
+      simp (p .size, p .entries, p .root, p .named, e)
+
+-- a refusal leaves the count of nodes at 0
+pub refused-none : (k n : ℕ) → (k ≡ 0 → ⊥) → 0 ≡ unlessRefused k n
+refused-none zero n h = absurd (h refl)
+refused-none (suc k) n h = refl

@@ -1,0 +1,87 @@
+-- A test that some element of a list passes, and the same said of every element. Assumes nothing.
+use mathlib.Core.Path.{_≡_, refl, sym, ap, ap₂, _∙_, subst}
+use mathlib.Core.Logic.{_⊎_, inl, inr, ⊎-elim}
+use mathlib.Core.Bool.{Bool, true, false, _||_, _&&_, not}
+use mathlib.Core.List.{List, [], _∷_, _++_}
+use Prim.Native.Nat.{ℕ, zero, suc, _+_, _≤_, _<_}
+use native.Mathlib.Nat.{not-suc-le-zero, le-of-suc-le-suc}
+use native.Mathlib.Omega.{arith}
+use lib.Dec.{eqb, ltb}
+use lib.ListN.{length, getD}
+use borrow.Author.Tests.{eq-eqb, eqb-true, not-true, not-false}
+use Rattle.tree.specs.Numbers.{is, count, any, member, upTo}
+use Rattle.tree.proofs.Counting.{All, all-append, all-left, all-right, is-same, is-cases, below-or-not}
+
+-- ---- or, and
+
+pub true-false : true ≡ false → ⊥
+true-false e = subst (λ (b : Bool). elim b as (λ _. Type 0) [ true ↦ Unit {0} | false ↦ ⊥ ]) e tt
+
+pub or-false-left : (a b : Bool) → (a || b) ≡ false → a ≡ false
+or-false-left false b e = refl
+or-false-left true b e = e
+
+pub or-false-right : (a b : Bool) → (a || b) ≡ false → b ≡ false
+or-false-right false b e = e
+or-false-right true b e = absurd (true-false e)
+
+pub or-false : {a b : Bool} → a ≡ false → b ≡ false → (a || b) ≡ false
+or-false p q = ap₂ _||_ p q
+
+pub true-or-false : (b : Bool) → (b ≡ true) ⊎ (b ≡ false)
+true-or-false true = inl refl
+true-or-false false = inr refl
+
+-- ---- no element passes
+
+module _ {A : Type 0} (p : A → Bool) where
+  pub any-false : (l : List A) → any p l ≡ false → All (λ x. p x ≡ false) l
+  any-false [] e = tt
+  any-false (x ∷ l) e = (or-false-left (p x) (any p l) e, any-false l (or-false-right (p x) (any p l) e))
+
+  pub all-any : (l : List A) → All (λ x. p x ≡ false) l → any p l ≡ false
+  all-any [] a = refl
+  all-any (x ∷ l) a = or-false (a .0) (all-any l (a .1))
+
+-- ---- by index
+
+pub all-at : {A : Type 0} (P : A → Type 0) (l : List A) (d : A) → All P l → (i : ℕ) → i < length l → P (getD l i d)
+all-at P [] d a i h = absurd (not-suc-le-zero h)
+all-at P (x ∷ l) d a zero h = a .0
+all-at P (x ∷ l) d a (suc i) h = all-at P l d (a .1) i (le-of-suc-le-suc h)
+
+pub at-all : {A : Type 0} (P : A → Type 0) (l : List A) (d : A) → ((i : ℕ) → i < length l → P (getD l i d)) → All P l
+at-all P [] d h = tt
+at-all P (x ∷ l) d h = (h 0 (omega arith), at-all P l d (λ i k. h (suc i) (omega arith)))
+
+-- ---- over the numbers below n
+
+pub upTo-all : (P : ℕ → Type 0) (n : ℕ) → All P (upTo n) → (v : ℕ) → v < n → P v
+upTo-all P zero a v h = absurd (not-suc-le-zero h)
+upTo-all P (suc n) a v h =
+    ⊎-elim (λ e. subst P (sym (e .0)) (all-right P (upTo n) (n ∷ []) a .0))
+    (λ e. upTo-all P n (all-left P (upTo n) (n ∷ []) a) v (less h (e .0)))
+    (is-cases v n)
+  where
+    less : v < suc n → (v ≡ n → ⊥) → v < n
+    less h d = omega arith
+
+pub all-upTo : (P : ℕ → Type 0) (n : ℕ) → ((v : ℕ) → v < n → P v) → All P (upTo n)
+all-upTo P zero h = tt
+all-upTo P (suc n) h = all-append P (upTo n) (n ∷ []) (all-upTo P n (λ v k. h v (omega arith))) (h n (omega arith), tt)
+
+-- ---- members
+
+pub member-count : (x : ℕ) (l : List ℕ) → member x l ≡ true → 1 ≤ count x l
+member-count x [] e = absurd (true-false (sym e))
+member-count x (y ∷ l) e =
+    ⊎-elim (λ h. omega (arith, is-same x y (eqb-true x y h)))
+    (λ h. omega (arith, member-count x l (sym (ap (λ (b : Bool). b || member x l) h) ∙ e)))
+    (true-or-false (eqb x y))
+
+pub member-none : (x : ℕ) (l : List ℕ) → member x l ≡ false → count x l ≡ 0
+member-none x [] e = refl
+member-none x (y ∷ l) e =
+    ⊎-elim (λ s. absurd (true-false (sym (eq-eqb x y (s .0)) ∙ or-false-left (eqb x y) (member x l) e)))
+    (λ s. omega (arith, s .1, member-none x l (or-false-right (eqb x y) (member x l) e)))
+    (is-cases x y)

@@ -1,0 +1,118 @@
+-- Levels and tree order: what is read off the tree of an accepted table is what the level-by-level walk of the table meets. Assumes nothing.
+use mathlib.Core.Path.{_≡_, refl, sym, ap, ap₂, _∙_, subst}
+use mathlib.Core.List.{List, [], _∷_, _++_, append-nil, append-assoc}
+use Prim.Native.Nat.{ℕ, zero, suc, _+_, _≤_, _<_}
+use native.Mathlib.Nat.{not-suc-le-zero}
+use native.Mathlib.Omega.{arith}
+use Rattle.tree.specs.Numbers.{flatMap}
+use Rattle.tree.specs.Table.{nodes, firstChild}
+use Rattle.tree.specs.Forest.{Forest, nil, node, forest, forestFrom, treeOf, size, preorder, roots, entry, siblings}
+use Rattle.tree.specs.Levels.{childrenOf, walkFrom, walk, beside, levels}
+use Rattle.tree.specs.WellFormed.{tableNumber}
+use Rattle.tree.proofs.Counting.{Below, all-left, all-right}
+use Rattle.tree.proofs.Reading.{Agrees}
+use Rattle.tree.proofs.Linked.{read-back}
+use Rattle.tree.proofs.Stands.{Numbers, accepted-agrees, accepted-numbers, accepted-size}
+
+-- ---- one forest behind another, and the forest one level down
+
+abbrev pub join : Forest → Forest → Forest
+join nil g = g
+join (node v f h) g = node v f (join h g)
+
+abbrev pub oneDown : Forest → Forest
+oneDown nil = nil
+oneDown (node v f g) = join f (oneDown g)
+
+size-join : (f g : Forest) → size (join f g) ≡ size f + size g
+size-join nil g = omega arith
+size-join (node v f h) g = omega (arith, size-join h g)
+
+size-oneDown : (f : Forest) → size (oneDown f) ≤ size f
+size-oneDown nil = omega arith
+size-oneDown (node v f g) = omega (arith, size-join f (oneDown g), size-oneDown g)
+
+beside-nil : (xs : List (List ℕ)) → beside xs [] ≡ xs
+beside-nil [] = refl
+beside-nil (x ∷ xs) = refl
+
+pub beside-assoc : (xs ys zs : List (List ℕ)) → beside (beside xs ys) zs ≡ beside xs (beside ys zs)
+beside-assoc [] ys zs = refl
+beside-assoc (x ∷ xs) [] zs = refl
+beside-assoc (x ∷ xs) (y ∷ ys) [] = refl
+beside-assoc (x ∷ xs) (y ∷ ys) (z ∷ zs) = ap₂ (λ (a : List ℕ) (b : List (List ℕ)). a ∷ b) (append-assoc x y z) (beside-assoc xs ys zs)
+
+pub levels-join : (f g : Forest) → levels (join f g) ≡ beside (levels f) (levels g)
+levels-join nil g = refl
+levels-join (node v f h) g =
+    ap (beside ((v ∷ []) ∷ levels f)) (levels-join h g) ∙ sym (beside-assoc ((v ∷ []) ∷ levels f) (levels h) (levels g))
+
+-- the first level is the roots, and the others are the levels of the forest one level down
+pub levels-down : (v : ℕ) (f g : Forest) → levels (node v f g) ≡ roots (node v f g) ∷ levels (oneDown (node v f g))
+levels-down v f nil = ap (λ (l : List (List ℕ)). (v ∷ []) ∷ l) (sym (levels-join f nil ∙ beside-nil (levels f)))
+levels-down v f (node w g h) =
+    ap (beside ((v ∷ []) ∷ levels f)) (levels-down w g h)
+    ∙ ap (λ (l : List (List ℕ)). (v ∷ roots (node w g h)) ∷ l) (sym (levels-join f (oneDown (node w g h))))
+
+-- ---- the walk
+
+-- at every node of the forest the table names its children
+abbrev pub Leads : List ℕ → Forest → Type 0
+Leads t nil = Unit {0}
+Leads t (node v f g) = (forest t (firstChild t v) ≡ f) × Leads t f × Leads t g
+
+leads-join : (t : List ℕ) (f g : Forest) → Leads t f → Leads t g → Leads t (join f g)
+leads-join t nil g a b = b
+leads-join t (node v f h) g a b = (a .0, a .1, leads-join t h g (a .2) b)
+
+leads-down : (t : List ℕ) (f : Forest) → Leads t f → Leads t (oneDown f)
+leads-down t nil a = tt
+leads-down t (node v f g) a = leads-join t f (oneDown g) (a .1) (leads-down t g (a .2))
+
+roots-join : (f g : Forest) → roots (join f g) ≡ roots f ++ roots g
+roots-join nil g = refl
+roots-join (node v f h) g = ap (λ (l : List ℕ). v ∷ l) (roots-join h g)
+
+children-down : (t : List ℕ) (f : Forest) → Leads t f → flatMap (childrenOf t) (roots f) ≡ roots (oneDown f)
+unfolding childrenOf
+children-down t nil a = refl
+children-down t (node v f g) a = ap₂ _++_ (ap roots (a .0)) (children-down t g (a .2)) ∙ sym (roots-join f (oneDown g))
+
+pub walk-levels : (t : List ℕ) (k : ℕ) (f : Forest) → Leads t f → size f ≤ k → walkFrom k t (roots f) ≡ levels f
+walk-levels t zero nil a h = refl
+walk-levels t zero (node v f g) a h = absurd (not-suc-le-zero h)
+walk-levels t (suc k) nil a h = refl
+walk-levels t (suc k) (node v f g) a h =
+    ap (λ (l : List (List ℕ)). roots (node v f g) ∷ l)
+    (ap (walkFrom k t) (children-down t (node v f g) a)
+    ∙ walk-levels t k (oneDown (node v f g)) (leads-down t (node v f g) a) (omega (arith, size-join f (oneDown g), size-oneDown g)))
+    ∙ sym (levels-down v f g)
+
+-- ---- an accepted table
+
+leads : (t : List ℕ) → nodes t ≤ 1024 → (f : Forest) → Agrees t f → Below (nodes t) (preorder f) → size f ≤ nodes t → Leads t f
+unfolding forest
+leads t few nil a b h = tt
+leads t few (node v f g) a b h =
+    let left = all-left (λ x. x < nodes t) (preorder f) (preorder g) (b .1) in
+    let right = all-right (λ x. x < nodes t) (preorder f) (preorder g) (b .1) in
+    ( ap (forestFrom (nodes t) t) (a .0) ∙ read-back t few f (a .2) left (nodes t) (omega arith)
+    , leads t few f (a .2) left (omega arith)
+    , leads t few g (a .3) right (omega arith))
+
+pub accepted-leads : (t : List ℕ) → tableNumber t ≡ 0 → Leads t (treeOf t)
+accepted-leads t e =
+    let N = accepted-numbers t e in
+    leads t (N .few) (treeOf t) (accepted-agrees t e) (N .below) (omega (arith, accepted-size t e))
+
+-- the walk of an accepted table meets the levels of its tree
+pub accepted-walk : (t : List ℕ) → tableNumber t ≡ 0 → walk t ≡ levels (treeOf t)
+unfolding walk
+accepted-walk t e =
+    let N = accepted-numbers t e in
+    ap (walkFrom (nodes t) t) (sym (root (treeOf t) (N .root) (N .alone)))
+    ∙ walk-levels t (nodes t) (treeOf t) (accepted-leads t e) (omega (arith, accepted-size t e))
+  where
+    root : (f : Forest) → entry f ≡ 0 → siblings f ≡ nil → roots f ≡ 0 ∷ []
+    root nil e s = absurd (omega (arith, e))
+    root (node v f g) e s = ap₂ (λ (x : ℕ) (l : List ℕ). x ∷ l) e (ap roots s)

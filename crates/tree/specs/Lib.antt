@@ -1,0 +1,9 @@
+-- The tree table, the ordered tree that it stands for, and what the three operations on it give.
+pub mod Numbers
+pub mod Table
+pub mod Forest
+pub mod Levels
+pub mod Shape
+pub mod WellFormed
+pub mod Operations
+pub mod Steps

@@ -1,0 +1,45 @@
+-- The conditions under which a tree table is refused, in the paper's order. A table is well-formed if none holds.
+use Prim.Native.Nat.{ℕ, _%_}
+use mathlib.Core.Path.{_≡_}
+use mathlib.Core.Bool.{Bool, false, _||_, _&&_, not}
+use mathlib.Core.List.{List, [], _∷_}
+use lib.Dec.{eqb, ltb}
+use lib.ListN.{length}
+use Rattle.refusal.specs.First.{Condition, _⇐_, first}
+use Rattle.tree.specs.Numbers.{upTo, count, any, member}
+use Rattle.tree.specs.Table.{none, nodes, nextSibling}
+use Rattle.tree.specs.Forest.{treeOf, preorder}
+
+-- 1: the length is odd, 0, or above 2,048
+unfoldable pub badLength : List ℕ → Bool
+badLength t = eqb (length t % 2) 1 || eqb (length t) 0 || ltb 2048 (length t)
+
+-- 2: an entry is neither 65,535 nor below n
+unfoldable pub badEntry : List ℕ → Bool
+badEntry t = any (λ e. not (eqb e none) && not (ltb e (nodes t))) t
+
+-- 3: node 0 has a next sibling
+unfoldable pub rootHasSibling : List ℕ → Bool
+rootHasSibling t = not (eqb (nextSibling t 0) none)
+
+-- 4: some node is named by more than one entry, or node 0 by any
+unfoldable pub namedTwice : List ℕ → Bool
+namedTwice t = any (λ v. ltb 1 (count v t)) (upTo (nodes t)) || ltb 0 (count 0 t)
+
+-- 5: some node is not reached from node 0
+unfoldable pub notReached : List ℕ → Bool
+notReached t = any (λ v. not (member v (preorder (treeOf t)))) (upTo (nodes t))
+
+unfoldable pub tableConditions : List ℕ → List Condition
+tableConditions t = 1 ⇐ badLength t ∷ 2 ⇐ badEntry t ∷ 3 ⇐ rootHasSibling t ∷ 4 ⇐ namedTwice t ∷ 5 ⇐ notReached t ∷ []
+
+-- the number of a table: 0 where it is well-formed
+unfoldable pub tableNumber : List ℕ → ℕ
+tableNumber t = first (tableConditions t)
+
+-- conditions 1 to 4 do not hold
+pub record Passed (t : List ℕ) : Type 0 where
+  pub size : badLength t ≡ false
+  pub entries : badEntry t ≡ false
+  pub root : rootHasSibling t ≡ false
+  pub named : namedTwice t ≡ false

@@ -1,0 +1,99 @@
+// Conditions 1 to 5 of a tree table, in time proportional to its length.
+ghost use mathlib.Core.Path.{_≡_};
+ghost use mathlib.Core.Bool.{false};
+ghost use Prim.Native.Nat.{_≤_, _<_};
+ghost use lib.ListN.{length};
+ghost use Rattle.tree.specs.Table.{none, nodes};
+ghost use Rattle.tree.specs.WellFormed.{badLength, Passed};
+ghost use Rattle.tree.specs.Steps.{Scanned, Pushed, Visited, Judged};
+
+pub struct Found {
+    pub bad: bool,
+    pub repeated: bool,
+}
+
+// Conditions 2 and 4, in one pass over the entries. `named` marks the nodes that an entry named so far, and the root from the start.
+fn scan(table: &[u16]) -> Found
+    requires { ⌜ badLength (now table) ≡ false ⌝ }
+    ensures { λ r. ⌜ Scanned (now (table .entry)) (r .bad) (r .repeated) ⌝ }
+{
+    let n = table.len() / 2;
+    let mut named = [0u8; 1024];
+    named[0] = 1;
+    let mut repeats: usize = 0;
+    let mut i = 0;
+    while i < table.len() {
+        let e = table[i] as usize;
+        if e != 65535 {
+            if n <= e {
+                return Found { bad: true, repeated: false };
+            }
+            repeats += named[e] as usize;
+            named[e] = 1;
+        }
+        i += 1;
+    }
+    Found { bad: false, repeated: repeats != 0 }
+}
+
+// Puts an entry that names a node on the stack whose top is at `low`, and says where the top is now.
+fn push(order: &mut [u16], low: usize, e: u16) -> usize
+    requires { ⌜ ((e ≡ none → ⊥) → 0 < low) ⌝ }
+    requires { ⌜ low ≤ length (now order) ⌝ }
+    ensures { λ r. ⌜ Pushed (now (order .entry)) low e r (now (order .exit)) ⌝ }
+{
+    if e == 65535 {
+        return low;
+    }
+    order[low - 1] = e;
+    low - 1
+}
+
+// Visits the nodes reached from node 0, each parent before its children's subtrees. The nodes visited stand at the front of `order`,
+// and those still to be visited on a stack at its end.
+fn preorder(table: &[u16], order: &mut [u16]) -> usize
+    requires { ⌜ Passed (now table) ⌝ }
+    requires { ⌜ length (now order) ≡ nodes (now table) ⌝ }
+    ensures { λ r. ⌜ Visited (now (table .entry)) r (now (order .exit)) ⌝ }
+{
+    let n = order.len();
+    order[n - 1] = 0;
+    let mut low = n - 1;
+    let mut count: usize = 0;
+    while low < n {
+        let v = order[low];
+        let row = 2 * (v as usize);
+        order[count] = v;
+        count += 1;
+        low = push(order, low + 1, table[row + 1]);
+        low = push(order, low, table[row]);
+    }
+    count
+}
+
+// The number of a table. Where it is 0, `order` then begins with the table's nodes in preorder.
+pub fn judge(table: &[u16], order: &mut [u16]) -> u16
+    requires { ⌜ 1024 ≤ length (now order) ⌝ }
+    ensures { λ r. ⌜ Judged (now (table .entry)) r (now (order .exit)) ⌝ }
+{
+    let entries = table.len();
+    if entries % 2 == 1 || entries == 0 || 2048 < entries {
+        return 1;
+    }
+    let scanned = scan(table);
+    if scanned.bad {
+        return 2;
+    }
+    if table[1] != 65535 {
+        return 3;
+    }
+    if scanned.repeated {
+        return 4;
+    }
+    let n = entries / 2;
+    let reached = preorder(table, &mut order[..n]);
+    if reached < n {
+        return 5;
+    }
+    0
+}

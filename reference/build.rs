@@ -1,0 +1,24 @@
+//! Links the library's archive into the comparisons and the benchmarks that call it.
+//!
+//! The archive is `../target/staticlib/libexports.a`; the environment variable `HIWENOKA_LIB_DIR`
+//! names another folder. The package's own library and its unit tests do not need it.
+
+use std::env;
+use std::path::PathBuf;
+
+fn main() {
+    println!("cargo:rerun-if-env-changed=HIWENOKA_LIB_DIR");
+    let folder = match env::var_os("HIWENOKA_LIB_DIR") {
+        Some(folder) => PathBuf::from(folder),
+        None => {
+            let package = env::var_os("CARGO_MANIFEST_DIR").expect("cargo names the package");
+            PathBuf::from(package).join("../target/staticlib")
+        }
+    };
+    let archive = folder.join("libexports.a");
+    let archive = archive.display();
+    println!("cargo:rerun-if-changed={archive}");
+    println!("cargo:rustc-link-arg-tests={archive}");
+    println!("cargo:rustc-link-arg-bin=bench_table={archive}");
+    println!("cargo:rustc-link-arg-bin=bench_sheet={archive}");
+}

@@ -1,0 +1,82 @@
+//! The calls that the benchmark of the published pointer method counts, as a baseline.
+//!
+//! `bench_pointer cases OPERATION` prints one line for each call: operation, shape, size, and the
+//! count of nodes. `bench_pointer run OPERATION` makes the calls in that order. The operations are
+//! `places` (places, levels and extremes) and `record` (the measured pairs too). Neither checks
+//! the table.
+
+use reference::pointer::{Extent, Pointers};
+use reference::random::Random;
+use reference::shapes::{self, SHAPES};
+use std::env;
+use std::hint::black_box;
+
+const SIZES: [usize; 3] = [64, 256, 1_024];
+const SEPARATION: u16 = 5;
+
+struct Slices {
+    pointers: Pointers,
+    places: Vec<i32>,
+    levels: Vec<u16>,
+    record: Vec<u16>,
+}
+
+/// Found by its symbol.
+#[no_mangle]
+#[inline(never)]
+fn pointer_places(table: &[u16], slices: &mut Slices) -> Extent {
+    slices.pointers.lay_out::<false>(
+        table,
+        SEPARATION,
+        &mut slices.places,
+        &mut slices.levels,
+        &mut [],
+    )
+}
+
+/// Found by its symbol.
+#[no_mangle]
+#[inline(never)]
+fn pointer_record(table: &[u16], slices: &mut Slices) -> Extent {
+    slices.pointers.lay_out::<true>(
+        table,
+        SEPARATION,
+        &mut slices.places,
+        &mut slices.levels,
+        &mut slices.record,
+    )
+}
+
+fn main() {
+    let arguments: Vec<String> = env::args().collect();
+    let [_, mode, operation] = &arguments[..] else {
+        panic!("usage: bench_pointer cases|run OPERATION");
+    };
+    let lay_out = match operation.as_str() {
+        "places" => pointer_places,
+        "record" => pointer_record,
+        _ => panic!("an operation is places or record"),
+    };
+    let mut random = Random::new(1);
+    let mut slices = Slices {
+        pointers: Pointers::new(1_024),
+        places: vec![0; 1_024],
+        levels: vec![0; 1_024],
+        record: vec![0; 2_048],
+    };
+    for size in SIZES {
+        let mut cases: Vec<(&str, Vec<u16>)> = SHAPES
+            .iter()
+            .map(|shape| (shape.name, (shape.make)(size, &mut random)))
+            .collect();
+        cases.push(("contours", shapes::largest(shapes::contour_family, size)));
+        cases.push(("shares", shapes::largest(shapes::share_family, size)));
+        for (shape, table) in cases {
+            if mode == "cases" {
+                println!("{operation} {shape} {size} {}", table.len() / 2);
+            } else {
+                black_box(lay_out(black_box(&table), &mut slices));
+            }
+        }
+    }
+}

@@ -1,0 +1,586 @@
+//! The model of the layout: the six steps of "Where a node stands", taken literally.
+//!
+//! A drawing is a list of levels, each a list of nodes with their places in tree order. So the
+//! left contour is the first of each level and the right contour the last.
+
+use crate::table::{children_of, over_start, parents_first, refusal, Children};
+
+/// The drawing of a subtree; its root alone is on the first level.
+type Drawing = Vec<Vec<(usize, i64)>>;
+
+/// A finished drawing with the root at 0, and the measured pairs, left node first.
+pub struct Drawn {
+    pub levels: Drawing,
+    pub record: Vec<(usize, usize)>,
+}
+
+/// Steps 1 to 6 for the tree with these children.
+pub fn draw(children: &Children, separation: i64) -> Drawn {
+    let mut record = Vec::new();
+    let mut drawings: Vec<Option<Drawing>> = vec![None; children.len()];
+    // Step 1: each subtree on its own, so children before their parents.
+    for node in parents_first(children).into_iter().rev() {
+        let subtrees: Vec<Drawing> = children[node]
+            .iter()
+            .map(|&child| drawings[child].take().expect("drawn before its parent"))
+            .collect();
+        drawings[node] = Some(draw_family(node, subtrees, separation, &mut record));
+    }
+    Drawn {
+        levels: drawings[0].take().expect("the root is drawn last"),
+        record,
+    }
+}
+
+/// The drawing of a node over the drawings of its children, each with its root at 0; again with
+/// the node at 0, which is step 6 for the whole and free for a part that moves as one piece.
+fn draw_family(
+    node: usize,
+    subtrees: Vec<Drawing>,
+    separation: i64,
+    record: &mut Vec<(usize, usize)>,
+) -> Drawing {
+    if subtrees.is_empty() {
+        return vec![vec![(node, 0)]];
+    }
+    let mut joined: Vec<Drawing> = Vec::new();
+    for subtree in subtrees {
+        join(&mut joined, subtree, separation, record);
+    }
+    // Step 5.
+    let (first, last) = (
+        root_place(&joined[0]),
+        root_place(&joined[joined.len() - 1]),
+    );
+    let place = first + (last - first) / 2;
+    let mut drawing = vec![vec![(node, place)]];
+    let level_count = joined.iter().map(Vec::len).max().unwrap_or(0);
+    for level in 0..level_count {
+        let row = joined.iter().filter_map(|child| child.get(level));
+        drawing.push(row.flatten().copied().collect());
+    }
+    move_right(&mut drawing, -place);
+    drawing
+}
+
+/// Steps 2 to 4 for child j, the number of children already joined.
+fn join(
+    joined: &mut Vec<Drawing>,
+    mut subtree: Drawing,
+    separation: i64,
+    record: &mut Vec<(usize, usize)>,
+) {
+    let j = joined.len();
+    if j > 0 {
+        move_right(&mut subtree, root_place(&joined[j - 1]) + separation);
+    }
+    for level in 0.. {
+        // The right contour's node belongs to the last child that has the level.
+        let Some(i) = joined.iter().rposition(|child| level < child.len()) else {
+            break;
+        };
+        if level >= subtree.len() {
+            break;
+        }
+        let (left, left_place) = joined[i][level][joined[i][level].len() - 1];
+        let (right, right_place) = subtree[level][0];
+        record.push((left, right));
+        let s = separation - (right_place - left_place);
+        if s > 0 {
+            let k = j - i;
+            let q = s / k as i64;
+            move_right(&mut subtree, s);
+            for t in 1..k {
+                move_right(&mut joined[i + t], t as i64 * q);
+            }
+        }
+    }
+    joined.push(subtree);
+}
+
+fn root_place(drawing: &Drawing) -> i64 {
+    drawing[0][0].1
+}
+
+fn move_right(drawing: &mut Drawing, distance: i64) {
+    for (_, place) in drawing.iter_mut().flatten() {
+        *place += distance;
+    }
+}
+
+/// The slices that a layout writes, as they are lent.
+pub struct Slices<'a> {
+    pub places: &'a [i32],
+    pub levels: &'a [u16],
+    pub record: &'a [u16],
+    pub work: &'a [i32],
+}
+
+/// What a call of the layout must give. The pairs stand in the record in this model's order.
+#[derive(Debug, PartialEq, Eq)]
+pub struct LaidOut {
+    pub number: u16,
+    pub nodes: u16,
+    pub level_count: u16,
+    pub least: i32,
+    pub greatest: i32,
+    pub pairs: u16,
+    pub places: Vec<i32>,
+    pub levels: Vec<u16>,
+    pub record: Vec<u16>,
+    pub work: Vec<i32>,
+}
+
+impl LaidOut {
+    /// Whether a record agrees with this one but for the order of its pairs.
+    pub fn agrees_with_record(&self, record: &[u16]) -> bool {
+        let written = 2 * usize::from(self.pairs);
+        record.len() == self.record.len()
+            && sorted_pairs(&record[..written]) == sorted_pairs(&self.record[..written])
+            && record[written..] == self.record[written..]
+    }
+}
+
+fn sorted_pairs(record: &[u16]) -> Vec<(u16, u16)> {
+    let mut pairs: Vec<(u16, u16)> = record.chunks_exact(2).map(|p| (p[0], p[1])).collect();
+    pairs.sort_unstable();
+    pairs
+}
+
+/// The whole operation.
+pub fn layout(table: &[u16], separation: u16, lent: &Slices) -> LaidOut {
+    match layout_refusal(table, separation, lent) {
+        0 => accepted(table, separation, lent),
+        number => LaidOut {
+            number,
+            nodes: 0,
+            level_count: 0,
+            least: 0,
+            greatest: 0,
+            pairs: 0,
+            places: lent.places.to_vec(),
+            levels: lent.levels.to_vec(),
+            record: lent.record.to_vec(),
+            work: lent.work.to_vec(),
+        },
+    }
+}
+
+/// The first of the conditions 1 to 8 that holds, or 0.
+fn layout_refusal(table: &[u16], separation: u16, lent: &Slices) -> u16 {
+    let nodes = table.len() / 2;
+    if refusal(table) != 0 {
+        refusal(table)
+    } else if !(1..=1_024).contains(&separation) {
+        6
+    } else if lent.places.len() < nodes
+        || lent.levels.len() < nodes
+        || lent.record.len() < 2 * nodes
+    {
+        7
+    } else if lent.work.len() < 16 * nodes {
+        8
+    } else {
+        0
+    }
+}
+
+fn accepted(table: &[u16], separation: u16, lent: &Slices) -> LaidOut {
+    let nodes = table.len() / 2;
+    let drawn = draw(&children_of(table), i64::from(separation));
+    let mut places = vec![0; nodes];
+    let mut levels = vec![0; nodes];
+    for (level, row) in drawn.levels.iter().enumerate() {
+        for &(node, place) in row {
+            places[node] = i32::try_from(place).expect("places fit 32 bits");
+            levels[node] = level as u16;
+        }
+    }
+    let record: Vec<u16> = drawn
+        .record
+        .iter()
+        .flat_map(|&(left, right)| [left as u16, right as u16])
+        .collect();
+    LaidOut {
+        number: 0,
+        nodes: nodes as u16,
+        level_count: drawn.levels.len() as u16,
+        least: places.iter().copied().min().unwrap_or(0),
+        greatest: places.iter().copied().max().unwrap_or(0),
+        pairs: drawn.record.len() as u16,
+        places: over_start(lent.places, &places),
+        levels: over_start(lent.levels, &levels),
+        record: over_start(lent.record, &record),
+        work: over_start(lent.work, &vec![0; 16 * nodes]),
+    }
+}
+
+#[cfg(test)]
+mod tests {
+    use super::*;
+    use crate::random::Random;
+    use crate::shapes;
+    use crate::table::level_by_level;
+    use std::collections::BTreeSet;
+
+    /// A layout with slices of just the lengths that are needed.
+    fn lay_out(table: &[u16], separation: u16) -> LaidOut {
+        let nodes = table.len() / 2;
+        let slices = Slices {
+            places: &vec![-9; nodes],
+            levels: &vec![9; nodes],
+            record: &vec![9; 2 * nodes],
+            work: &vec![9; 16 * nodes],
+        };
+        layout(table, separation, &slices)
+    }
+
+    /// Holds a layout against places and levels worked out by hand. A node is given by its level
+    /// and its place, in Renumber's order.
+    fn expect(separation: u16, dots: &[(usize, i32)]) {
+        let list: Vec<usize> = dots.iter().map(|dot| dot.0).collect();
+        let table = shapes::table_of_levels(&list);
+        let laid = lay_out(&table, separation);
+        let places: Vec<i32> = dots.iter().map(|dot| dot.1).collect();
+        assert_eq!(laid.number, 0);
+        assert_eq!(usize::from(laid.nodes), dots.len());
+        assert_eq!(laid.places, places);
+        assert!(laid
+            .levels
+            .iter()
+            .map(|&level| usize::from(level))
+            .eq(list.clone()));
+        let level_count = 1 + list.iter().max().expect("there is a root");
+        assert_eq!(usize::from(laid.level_count), level_count);
+        assert_eq!(laid.least, *places.iter().min().expect("there is a root"));
+        assert_eq!(
+            laid.greatest,
+            *places.iter().max().expect("there is a root")
+        );
+        assert_eq!(usize::from(laid.pairs), dots.len() - level_count);
+        assert_eq!(
+            sorted_pairs(&laid.record[..2 * usize::from(laid.pairs)]),
+            neighbours(&table)
+        );
+        assert!(laid.work.iter().all(|&entry| entry == 0));
+    }
+
+    fn neighbours(table: &[u16]) -> Vec<(u16, u16)> {
+        let levels = level_by_level(&children_of(table));
+        let mut pairs: Vec<(u16, u16)> = levels
+            .iter()
+            .flat_map(|level| {
+                level
+                    .windows(2)
+                    .map(|pair| (pair[0] as u16, pair[1] as u16))
+            })
+            .collect();
+        pairs.sort_unstable();
+        pairs
+    }
+
+    #[test]
+    fn p1_one_node() {
+        expect(5, &[(0, 0)]);
+    }
+
+    #[test]
+    fn p2_a_chain_of_three() {
+        expect(5, &[(0, 0), (1, 0), (2, 0)]);
+    }
+
+    #[test]
+    fn p3_to_p5_leaves() {
+        expect(10, &[(0, 0), (1, -5), (1, 5)]);
+        expect(3, &[(0, 0), (1, -1), (1, 2)]);
+        expect(1, &[(0, 0), (1, -1), (1, 0), (1, 1)]);
+    }
+
+    #[test]
+    fn p6_two_go_betweens() {
+        expect(
+            4,
+            &[
+                (0, 0),
+                (1, -10),
+                (2, -18),
+                (2, -14),
+                (2, -10),
+                (2, -6),
+                (2, -2),
+                (1, -4),
+                (1, 2),
+                (1, 10),
+                (2, 2),
+                (2, 6),
+                (2, 10),
+                (2, 14),
+                (2, 18),
+            ],
+        );
+        let list = [0, 1, 2, 2, 2, 2, 2, 1, 1, 1, 2, 2, 2, 2, 2];
+        assert_eq!(lay_out(&shapes::table_of_levels(&list), 4).pairs, 12);
+    }
+
+    #[test]
+    fn p7_a_conflict_with_the_elder_and_one_with_the_eldest() {
+        // B meets A one level down: s = 2. C meets B one level down, s = 4, and then A two levels
+        // down, s = 2, of which B takes 1. Before the last step A, B, C stand at 0, 5, 12.
+        expect(
+            2,
+            &[
+                (0, 0),
+                (1, -6),
+                (2, -6),
+                (3, -12),
+                (3, -10),
+                (3, -8),
+                (3, -6),
+                (3, -4),
+                (3, -2),
+                (3, 0),
+                (1, -1),
+                (2, -3),
+                (2, -1),
+                (2, 1),
+                (1, 6),
+                (2, 4),
+                (2, 6),
+                (3, 2),
+                (3, 4),
+                (3, 6),
+                (3, 8),
+                (3, 10),
+                (2, 8),
+            ],
+        );
+    }
+
+    #[test]
+    fn two_pairs_of_leaves() {
+        // D = 4. Each child stands between its leaves at -2 and 2. The second child starts at 4;
+        // its first leaf then stands at 2, as does the first child's last leaf: s = 4. The
+        // children stand at 0 and 8, the root at 4.
+        expect(
+            4,
+            &[(0, 0), (1, -4), (2, -6), (2, -2), (1, 4), (2, 2), (2, 6)],
+        );
+    }
+
+    #[test]
+    fn a_deeper_subtree_beside_a_shallower_forest() {
+        // D = 2, children A (a leaf), B (one child with leaves at -2, 0, 2 under it), C (two
+        // single children, then such leaves). B starts at 2 and C at 4, both without a conflict
+        // with their elder. Two levels down B's last leaf stands at 4 and so does C's chain:
+        // s = 2, C at 6. A, B, C stand at 0, 2, 6, the root at 3.
+        expect(
+            2,
+            &[
+                (0, 0),
+                (1, -3),
+                (1, -1),
+                (2, -1),
+                (3, -3),
+                (3, -1),
+                (3, 1),
+                (1, 3),
+                (2, 3),
+                (3, 3),
+                (4, 1),
+                (4, 3),
+                (4, 5),
+            ],
+        );
+    }
+
+    #[test]
+    fn two_conflicts_each_with_a_go_between() {
+        // D = 2, children A, b, C, d, E with 3, 0, 3, 0 and 7 leaves. C starts at 4 and its first
+        // leaf stands at 2, as does A's last: s = 2, k = 2, so b moves by 1 and C by 2, to 3 and
+        // 6. E starts at 10, its first leaf at 4; C's last stands at 8: s = 6, k = 2, so d moves
+        // from 8 to 11 and E to 16. The root stands at 8.
+        expect(
+            2,
+            &[
+                (0, 0),
+                (1, -8),
+                (2, -10),
+                (2, -8),
+                (2, -6),
+                (1, -5),
+                (1, -2),
+                (2, -4),
+                (2, -2),
+                (2, 0),
+                (1, 3),
+                (1, 8),
+                (2, 2),
+                (2, 4),
+                (2, 6),
+                (2, 8),
+                (2, 10),
+                (2, 12),
+                (2, 14),
+            ],
+        );
+    }
+
+    #[test]
+    fn one_child_with_two_conflicts_shared() {
+        // D = 2, children A (one child with nine leaves), b, C (three leaves), d, and E (three
+        // children, five leaves under the middle one). A, b, C, d stand at 0, 2, 4, 6 without a
+        // conflict. E starts at 8. One level down C's last leaf stands at 6 and so does E's first
+        // child: s = 2, k = 2, so d moves to 7 and E to 10. Two levels down A's last leaf stands
+        // at 8 and E's first at 6: s = 4, k = 4, so b, C, d move by 1, 2, 3 to 3, 6, 10 and E to
+        // 14. The root stands at 7.
+        expect(
+            2,
+            &[
+                (0, 0),
+                (1, -7),
+                (2, -7),
+                (3, -15),
+                (3, -13),
+                (3, -11),
+                (3, -9),
+                (3, -7),
+                (3, -5),
+                (3, -3),
+                (3, -1),
+                (3, 1),
+                (1, -4),
+                (1, -1),
+                (2, -3),
+                (2, -1),
+                (2, 1),
+                (1, 3),
+                (1, 7),
+                (2, 5),
+                (2, 7),
+                (3, 3),
+                (3, 5),
+                (3, 7),
+                (3, 9),
+                (3, 11),
+                (2, 9),
+            ],
+        );
+    }
+
+    #[test]
+    fn refusals_of_the_paper() {
+        let none = crate::table::NONE;
+        assert_eq!(lay_out(&[], 5).number, 1);
+        assert_eq!(lay_out(&[none, 1, none, none], 5).number, 3);
+        assert_eq!(lay_out(&[0, none], 5).number, 4);
+        assert_eq!(lay_out(&[none; 4], 5).number, 5);
+        assert_eq!(lay_out(&[none; 2], 0).number, 6);
+        assert_eq!(lay_out(&[none; 2], 1).number, 0);
+        assert_eq!(lay_out(&[none; 2], 1_024).number, 0);
+        assert_eq!(lay_out(&[none; 2], 1_025).number, 6);
+        assert_eq!(lay_out(&shapes::chain(1_024), 5).number, 0);
+        assert_eq!(lay_out(&shapes::chain(1_025), 5).number, 1);
+        assert_eq!(lay_out(&[none, none, 2, none, 1, none], 5).number, 5);
+    }
+
+    #[test]
+    fn short_slices_and_entries_past_those_named() {
+        let table = shapes::star(3);
+        let with = |separation, places: usize, levels: usize, record: usize, work: usize| {
+            let slices = Slices {
+                places: &vec![-9; places],
+                levels: &vec![9; levels],
+                record: &vec![8; record],
+                work: &vec![7; work],
+            };
+            layout(&table, separation, &slices)
+        };
+        assert_eq!(with(1, 2, 3, 6, 48).number, 7);
+        assert_eq!(with(1, 3, 2, 6, 48).number, 7);
+        assert_eq!(with(1, 3, 3, 5, 47).number, 7);
+        assert_eq!(with(0, 3, 3, 5, 47).number, 6);
+        let refused = with(1, 3, 3, 6, 47);
+        assert_eq!(refused.number, 8);
+        assert_eq!(refused.work, [7; 47]);
+        assert_eq!(refused.places, [-9; 3]);
+        let laid = with(3, 4, 5, 7, 50);
+        assert_eq!(laid.number, 0);
+        assert_eq!(laid.places, [0, -1, 2, -9]);
+        assert_eq!(laid.levels, [0, 1, 1, 9, 9]);
+        assert_eq!(laid.record, [1, 2, 8, 8, 8, 8, 8]);
+        assert_eq!(laid.work[..48], [0; 48]);
+        assert_eq!(laid.work[48..], [7; 2]);
+    }
+
+    /// Demand 3 and what follows from the steps: the record is the neighbours, they keep their
+    /// distance, a last child touches at D, and the width is bounded.
+    fn hold_promises(table: &[u16], separation: u16) {
+        let laid = lay_out(table, separation);
+        let pairs = sorted_pairs(&laid.record[..2 * usize::from(laid.pairs)]);
+        assert_eq!(pairs, neighbours(table));
+        let place = |node: u16| laid.places[usize::from(node)];
+        let distance = i32::from(separation);
+        for &(left, right) in &pairs {
+            assert!(place(right) - place(left) >= distance);
+        }
+        assert_eq!(laid.pairs + laid.level_count, laid.nodes);
+        assert_eq!(laid.places[0], 0);
+        assert!(laid.greatest - laid.least <= (i32::from(laid.nodes) - 1) * distance);
+        let children = children_of(table);
+        for family in children.iter().filter(|family| family.len() > 1) {
+            let (last, elder) = family.split_last().expect("the family has children");
+            let under_last = subtree_nodes(&children, &[*last]);
+            let under_elder = subtree_nodes(&children, elder);
+            assert!(pairs.iter().any(|&(left, right)| {
+                under_elder.contains(&left)
+                    && under_last.contains(&right)
+                    && place(right) - place(left) == distance
+            }));
+        }
+    }
+
+    fn subtree_nodes(children: &Children, roots: &[usize]) -> BTreeSet<u16> {
+        let mut nodes = BTreeSet::new();
+        let mut open = roots.to_vec();
+        while let Some(node) = open.pop() {
+            nodes.insert(node as u16);
+            open.extend(&children[node]);
+        }
+        nodes
+    }
+
+    #[test]
+    fn promises_on_every_small_tree_and_on_large_ones() {
+        for nodes in 1..=8 {
+            for table in shapes::every_tree(nodes) {
+                for separation in [1, 2, 3, 5, 1_024] {
+                    hold_promises(&table, separation);
+                }
+            }
+        }
+        let mut random = Random::new(23);
+        for shape in &shapes::SHAPES {
+            for nodes in [30, 100, 1_024] {
+                let table = (shape.make)(nodes, &mut random);
+                let table = shapes::renumbered_at_random(&table, &mut random);
+                hold_promises(&table, random.between(1, 1_024) as u16);
+            }
+        }
+    }
+
+    #[test]
+    fn a_subtree_draws_as_it_does_alone() {
+        // The child of a root with one child stands under it, so a chain on top changes no place.
+        let mut random = Random::new(29);
+        for nodes in 1..60 {
+            let table = shapes::mixed(nodes, &mut random);
+            let mut children: Children = vec![vec![1]];
+            for family in children_of(&table) {
+                children.push(family.iter().map(|child| child + 1).collect());
+            }
+            let alone = lay_out(&table, 7);
+            let under = lay_out(&crate::table::table_of(&children), 7);
+            assert_eq!(alone.places, under.places[1..]);
+        }
+    }
+}

@@ -1,0 +1,14 @@
+//! The independent reference of the copy sheet library.
+//!
+//! The models say what each operation must give, written from the paper alone and meant to be
+//! obviously right rather than fast. The comparisons in `tests/` hold the library against them.
+
+pub mod ffi;
+pub mod layout;
+pub mod lent;
+pub mod pointer;
+pub mod random;
+pub mod run;
+pub mod shapes;
+pub mod sheet;
+pub mod table;

@@ -1,0 +1,470 @@
+//! Makers of tables: shapes of trees, the families of document 004, every small tree, tables that
+//! are refused, and what is done to a table to make another.
+//!
+//! A maker of a shape gives exactly as many nodes as it is asked for, at least one.
+
+use crate::random::Random;
+use crate::table::{children_of, parents_first, table_of, Children, NONE};
+
+/// A named maker of trees of a given size.
+pub struct Shape {
+    pub name: &'static str,
+    pub make: fn(usize, &mut Random) -> Vec<u16>,
+}
+
+/// The shapes of every comparison.
+pub const SHAPES: [Shape; 10] = [
+    Shape {
+        name: "chain",
+        make: |nodes, _| chain(nodes),
+    },
+    Shape {
+        name: "star",
+        make: |nodes, _| star(nodes),
+    },
+    Shape {
+        name: "binary",
+        make: |nodes, _| binary(nodes),
+    },
+    Shape {
+        name: "broad",
+        make: broad,
+    },
+    Shape {
+        name: "deep",
+        make: deep,
+    },
+    Shape {
+        name: "caterpillar",
+        make: caterpillar,
+    },
+    Shape {
+        name: "comb",
+        make: |nodes, _| comb(nodes),
+    },
+    Shape {
+        name: "random",
+        make: random,
+    },
+    Shape {
+        name: "uniform",
+        make: uniform,
+    },
+    Shape {
+        name: "mixed",
+        make: mixed,
+    },
+];
+
+/// A tree that grows by one leaf at a time.
+struct Growing {
+    children: Children,
+}
+
+impl Growing {
+    fn root() -> Self {
+        Growing {
+            children: vec![vec![]],
+        }
+    }
+
+    fn nodes(&self) -> usize {
+        self.children.len()
+    }
+
+    /// A new last child.
+    fn add(&mut self, parent: usize) -> usize {
+        self.add_at(parent, self.children[parent].len())
+    }
+
+    /// A new child with `place` elder siblings.
+    fn add_at(&mut self, parent: usize, place: usize) -> usize {
+        let node = self.nodes();
+        self.children.push(vec![]);
+        self.children[parent].insert(place, node);
+        node
+    }
+
+    /// A new child with some number of elder siblings.
+    fn add_somewhere(&mut self, parent: usize, random: &mut Random) -> usize {
+        let place = random.between(0, self.children[parent].len());
+        self.add_at(parent, place)
+    }
+
+    /// A chain of new nodes under `parent`, its first node the new last child.
+    fn add_chain(&mut self, parent: usize, length: usize) {
+        let mut end = parent;
+        for _ in 0..length {
+            end = self.add(end);
+        }
+    }
+
+    /// A new last child with the subtrees of another tree's root.
+    fn add_tree(&mut self, parent: usize, table: &[u16]) {
+        let children = children_of(table);
+        let mut numbers = vec![0; children.len()];
+        numbers[0] = self.add(parent);
+        for node in parents_first(&children) {
+            for &child in &children[node] {
+                numbers[child] = self.add(numbers[node]);
+            }
+        }
+    }
+
+    fn table(&self) -> Vec<u16> {
+        table_of(&self.children)
+    }
+}
+
+/// One child each.
+pub fn chain(nodes: usize) -> Vec<u16> {
+    let mut tree = Growing::root();
+    tree.add_chain(0, nodes - 1);
+    tree.table()
+}
+
+/// All others are the root's children.
+pub fn star(nodes: usize) -> Vec<u16> {
+    let mut tree = Growing::root();
+    for _ in 1..nodes {
+        tree.add(0);
+    }
+    tree.table()
+}
+
+/// Two children each, filled level by level.
+pub fn binary(nodes: usize) -> Vec<u16> {
+    let mut tree = Growing::root();
+    for node in 1..nodes {
+        tree.add((node - 1) / 2);
+    }
+    tree.table()
+}
+
+/// Families of 4 to 40, filled level by level.
+pub fn broad(nodes: usize, random: &mut Random) -> Vec<u16> {
+    let mut tree = Growing::root();
+    for parent in 0.. {
+        for _ in 0..random.between(4, 40) {
+            if tree.nodes() == nodes {
+                return tree.table();
+            }
+            tree.add(parent);
+        }
+    }
+    unreachable!("every family adds a node")
+}
+
+/// Each node hangs under one of the latest few.
+pub fn deep(nodes: usize, random: &mut Random) -> Vec<u16> {
+    let mut tree = Growing::root();
+    while tree.nodes() < nodes {
+        let latest = tree.nodes() - 1;
+        let parent = latest - random.between(0, latest.min(3));
+        tree.add_somewhere(parent, random);
+    }
+    tree.table()
+}
+
+/// A path with up to three leaves on each side of each of its nodes.
+pub fn caterpillar(nodes: usize, random: &mut Random) -> Vec<u16> {
+    let mut tree = Growing::root();
+    let mut path = 0;
+    while tree.nodes() < nodes {
+        let (left, right) = (random.between(0, 3), random.between(0, 3));
+        let room = nodes - tree.nodes();
+        for _ in 0..left.min(room - 1) {
+            tree.add(path);
+        }
+        let next = tree.add(path);
+        for _ in 0..right.min(nodes - tree.nodes()) {
+            tree.add(path);
+        }
+        path = next;
+    }
+    tree.table()
+}
+
+/// A path along the right side, each of its nodes with a chain of one length to the left.
+pub fn comb(nodes: usize) -> Vec<u16> {
+    let length = nodes.isqrt();
+    let mut tree = Growing::root();
+    let mut path = 0;
+    while tree.nodes() < nodes {
+        let room = nodes - tree.nodes();
+        tree.add_chain(path, length.min(room - 1));
+        path = tree.add(path);
+    }
+    tree.table()
+}
+
+/// Each node hangs under any earlier one, at any place among its siblings.
+pub fn random(nodes: usize, random: &mut Random) -> Vec<u16> {
+    let mut tree = Growing::root();
+    while tree.nodes() < nodes {
+        let parent = random.below(tree.nodes());
+        tree.add_somewhere(parent, random);
+    }
+    tree.table()
+}
+
+/// Each ordered tree of this size equally likely. A tree is a walk of steps down, one for each
+/// node, and up between them; of all rotations of a shuffled list of such steps exactly one never
+/// comes back up to where it started.
+pub fn uniform(nodes: usize, random: &mut Random) -> Vec<u16> {
+    let mut steps: Vec<i32> = (0..2 * nodes - 1)
+        .map(|step| if step < nodes { 1 } else { -1 })
+        .collect();
+    random.shuffle(&mut steps);
+    // It starts where the shuffled walk was least deep, for the last time.
+    let (mut depth, mut least_depth, mut start) = (0, 0, 0);
+    for (step, &change) in steps.iter().enumerate() {
+        depth += change;
+        if depth <= least_depth {
+            least_depth = depth;
+            start = step + 1;
+        }
+    }
+    steps.rotate_left(start);
+    // The first step down is the root itself.
+    let mut tree = Growing::root();
+    let mut path = vec![0];
+    for &change in &steps[1..] {
+        if change == 1 {
+            let node = tree.add(path[path.len() - 1]);
+            path.push(node);
+        } else {
+            path.pop();
+        }
+    }
+    tree.table()
+}
+
+/// A root over several subtrees of other shapes, with leaves between them: many conflicts.
+pub fn mixed(nodes: usize, random: &mut Random) -> Vec<u16> {
+    let mut tree = Growing::root();
+    while tree.nodes() < nodes {
+        let room = nodes - tree.nodes();
+        let size = match random.below(4) {
+            0 => 1,
+            1 => random.between(1, room.min(8)),
+            _ => random.between(1, room.div_ceil(2)),
+        };
+        // The last shape is this one: it is left out.
+        let shape = &SHAPES[random.below(SHAPES.len() - 1)];
+        tree.add_tree(0, &(shape.make)(size, random));
+    }
+    tree.table()
+}
+
+/// The first family of document 004, section 4: a chain of 2k nodes down the right, whose first k
+/// nodes each have a chain to the left that reaches nearly as deep. It has k² + 2k nodes.
+pub fn contour_family(k: usize) -> Vec<u16> {
+    let mut tree = Growing::root();
+    let mut path = 0;
+    for i in 1..2 * k {
+        if i <= k {
+            tree.add_chain(path, 2 * (k - i) + 1);
+        }
+        path = tree.add(path);
+    }
+    tree.table()
+}
+
+/// The second family: k chains of 1 to k nodes under the root, k leaves between each two of them,
+/// and under the first a wide tree with which each later chain conflicts on its last level.
+pub fn share_family(k: usize) -> Vec<u16> {
+    let mut tree = Growing::root();
+    let mut wide = tree.add(0);
+    for length in 2..=k {
+        for _ in 0..k {
+            tree.add(0);
+        }
+        tree.add_chain(0, length);
+    }
+    for _ in 1..k {
+        let parent = wide;
+        for _ in 0..2 * k + 5 {
+            wide = tree.add(parent);
+        }
+    }
+    tree.table()
+}
+
+/// The member of a family with the greatest k that has at most `most_nodes` nodes.
+pub fn largest(family: fn(usize) -> Vec<u16>, most_nodes: usize) -> Vec<u16> {
+    (1..)
+        .map(family)
+        .take_while(|table| table.len() <= 2 * most_nodes)
+        .last()
+        .expect("the member of k = 1 fits")
+}
+
+/// A lone root beside a ring of all the others, each the next one's parent: refused 5.
+pub fn ring(nodes: usize) -> Vec<u16> {
+    ring_of_entry(nodes, 0)
+}
+
+/// The same with each the next one's elder sibling.
+pub fn sibling_ring(nodes: usize) -> Vec<u16> {
+    ring_of_entry(nodes, 1)
+}
+
+fn ring_of_entry(nodes: usize, entry: usize) -> Vec<u16> {
+    let mut table = strays(nodes);
+    for node in 1..nodes {
+        let next = if node + 1 < nodes { node + 1 } else { 1 };
+        table[2 * node + entry] = next as u16;
+    }
+    table
+}
+
+/// No links at all: refused 5 with two nodes or more.
+pub fn strays(nodes: usize) -> Vec<u16> {
+    vec![NONE; 2 * nodes]
+}
+
+/// Every ordered tree of so many nodes, numbered as by Renumber.
+pub fn every_tree(nodes: usize) -> Vec<Vec<u16>> {
+    // A tree is the list of its levels in that order: each node is at most one level below the
+    // node before it and never on the root's level.
+    let mut lists = vec![vec![0]];
+    for _ in 1..nodes {
+        lists = lists
+            .into_iter()
+            .flat_map(|list: Vec<usize>| {
+                let deepest = list[list.len() - 1] + 1;
+                (1..=deepest).map(move |level| [&list[..], &[level]].concat())
+            })
+            .collect();
+    }
+    lists.iter().map(|list| table_of_levels(list)).collect()
+}
+
+/// The tree of a list of levels in Renumber's order.
+pub fn table_of_levels(list: &[usize]) -> Vec<u16> {
+    let mut tree = Growing::root();
+    let mut path = vec![0];
+    for &level in &list[1..] {
+        path.truncate(level);
+        let node = tree.add(path[level - 1]);
+        path.push(node);
+    }
+    tree.table()
+}
+
+/// The same tree with other numbers; node 0 stays the root. Any table whose entries are in range
+/// will do.
+pub fn renumbered_at_random(table: &[u16], random: &mut Random) -> Vec<u16> {
+    let nodes = table.len() / 2;
+    let mut numbers: Vec<u16> = (0..nodes as u16).collect();
+    random.shuffle(&mut numbers[1..]);
+    let mut renumbered = vec![NONE; table.len()];
+    for node in 0..nodes {
+        for entry in 0..2 {
+            let named = table[2 * node + entry];
+            renumbered[2 * usize::from(numbers[node]) + entry] = match named {
+                NONE => NONE,
+                _ => numbers[usize::from(named)],
+            };
+        }
+    }
+    renumbered
+}
+
+/// A copy with so many entries replaced or exchanged.
+pub fn damaged(table: &[u16], count: usize, random: &mut Random) -> Vec<u16> {
+    let mut damaged = table.to_vec();
+    let nodes = table.len() / 2;
+    for _ in 0..count {
+        let entry = random.below(table.len());
+        damaged[entry] = match random.below(10) {
+            0..=3 => random.below(nodes) as u16,
+            4 | 5 => NONE,
+            6 => 0,
+            7 => nodes as u16,
+            8 => random.word(),
+            _ => {
+                let other = random.below(table.len());
+                let value = damaged[other];
+                damaged[other] = damaged[entry];
+                value
+            }
+        };
+    }
+    damaged
+}
+
+#[cfg(test)]
+mod tests {
+    use super::*;
+    use crate::table::{level_by_level, refusal, renumber};
+    use std::collections::BTreeSet;
+
+    #[test]
+    fn every_shape_is_well_formed_and_of_its_size() {
+        let mut source = Random::new(11);
+        for shape in &SHAPES {
+            for nodes in (1..70).chain([256, 1_023, 1_024]) {
+                let table = (shape.make)(nodes, &mut source);
+                assert_eq!(table.len(), 2 * nodes, "{} of {nodes}", shape.name);
+                assert_eq!(refusal(&table), 0, "{} of {nodes}", shape.name);
+                let other = renumbered_at_random(&table, &mut source);
+                assert_eq!(refusal(&other), 0);
+                assert_eq!(straight(&table), straight(&other));
+            }
+        }
+    }
+
+    fn straight(table: &[u16]) -> Vec<u16> {
+        renumber(table, table, table).out
+    }
+
+    #[test]
+    fn sizes_of_the_families() {
+        for k in 1..20 {
+            let contours = contour_family(k);
+            assert_eq!(refusal(&contours), 0);
+            assert_eq!(contours.len() / 2, 2 * k + k * (k - 1) + k);
+            let shares = share_family(k);
+            let nodes = 1 + k * (k + 1) / 2 + (k - 1) * k + (k - 1) * (2 * k + 5);
+            assert_eq!(shares.len() / 2, nodes);
+            if nodes <= 1_024 {
+                assert_eq!(refusal(&shares), 0);
+            }
+            assert_eq!(level_by_level(&children_of(&shares)).len(), k + 1);
+        }
+        assert_eq!(largest(contour_family, 1_024).len() / 2, 1_023);
+        assert_eq!(largest(share_family, 1_024).len() / 2, 932);
+    }
+
+    #[test]
+    fn counts_of_all_small_trees() {
+        for (nodes, count) in [1, 1, 2, 5, 14, 42, 132, 429, 1_430]
+            .into_iter()
+            .enumerate()
+        {
+            let trees = every_tree(nodes + 1);
+            assert_eq!(trees.len(), count);
+            assert!(trees.iter().all(|table| refusal(table) == 0));
+            assert!(trees.iter().all(|table| straight(table) == *table));
+            assert_eq!(trees.iter().collect::<BTreeSet<_>>().len(), count);
+        }
+    }
+
+    #[test]
+    fn uniform_trees_meet_every_small_one() {
+        let mut source = Random::new(5);
+        let met: BTreeSet<_> = (0..2_000).map(|_| uniform(6, &mut source)).collect();
+        assert_eq!(met.len(), 42);
+    }
+
+    #[test]
+    fn rings_and_strays_are_refused() {
+        for nodes in [2, 3, 64, 1_024] {
+            assert_eq!(refusal(&ring(nodes)), 5);
+            assert_eq!(refusal(&sibling_ring(nodes)), 5);
+            assert_eq!(refusal(&strays(nodes)), 5);
+        }
+    }
+}

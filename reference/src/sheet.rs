@@ -1,0 +1,278 @@
+//! The model of the sheet file: its layout, a reader, and a writer for test files.
+
+use crate::table::over_start;
+
+pub const BLOCK_BYTES: usize = 512;
+pub const BLOCK_WORDS: usize = 256;
+pub const MOST_BLOCKS: usize = 18;
+
+/// Rows to a block and words to a row.
+pub const BLOCK_ROWS: usize = 63;
+pub const ROW_WORDS: usize = 4;
+
+/// The word with which a block's sum comes to zero.
+pub const CLOSING_WORD: usize = 255;
+
+const MOST_NODES: u16 = 1_024;
+const MOST_SEPARATION: u16 = 1_024;
+
+/// What a call of the reader must give.
+#[derive(Debug, PartialEq, Eq)]
+pub struct Read {
+    pub number: u16,
+    pub nodes: u16,
+    pub separation: u16,
+    pub table: Vec<u16>,
+    pub tapes: Vec<u16>,
+}
+
+/// `table` and `tapes` are the slices as they are lent.
+pub fn read(file: &[u8], table: &[u16], tapes: &[u16]) -> Read {
+    match contents(file, table.len(), tapes.len()) {
+        Err(number) => Read {
+            number,
+            nodes: 0,
+            separation: 0,
+            table: table.to_vec(),
+            tapes: tapes.to_vec(),
+        },
+        Ok(sheet) => Read {
+            number: 0,
+            nodes: (sheet.table.len() / 2) as u16,
+            separation: sheet.separation,
+            table: over_start(table, &sheet.table),
+            tapes: over_start(tapes, &sheet.tapes),
+        },
+    }
+}
+
+/// What a sheet file says: for each node two words of the table and its tape's low and high word.
+#[derive(Clone, Debug, PartialEq, Eq)]
+pub struct Sheet {
+    pub separation: u16,
+    pub table: Vec<u16>,
+    pub tapes: Vec<u16>,
+}
+
+/// The conditions in the reader's order, then the rows.
+fn contents(file: &[u8], table_len: usize, tapes_len: usize) -> Result<Sheet, u16> {
+    if !file.len().is_multiple_of(BLOCK_BYTES) || !(1_024..=9_216).contains(&file.len()) {
+        return Err(9);
+    }
+    let blocks = blocks_of(file);
+    if !blocks.iter().all(|block| sum(block) == 0) {
+        return Err(10);
+    }
+    if !(0..blocks.len()).all(|place| usize::from(blocks[place][0]) == place) {
+        return Err(11);
+    }
+    let (nodes, separation) = (blocks[0][2], blocks[0][3]);
+    if !(1..=MOST_NODES).contains(&nodes) || !(1..=MOST_SEPARATION).contains(&separation) {
+        return Err(12);
+    }
+    let nodes = usize::from(nodes);
+    if blocks.len() != block_count(nodes) {
+        return Err(12);
+    }
+    for (place, block) in blocks.iter().enumerate() {
+        for (index, &word) in block.iter().enumerate() {
+            if fixed_word(nodes, place, index).is_some_and(|value| value != word) {
+                return Err(12);
+            }
+        }
+    }
+    if table_len < 2 * nodes || tapes_len < 2 * nodes {
+        return Err(7);
+    }
+    let mut sheet = Sheet {
+        separation,
+        table: Vec::new(),
+        tapes: Vec::new(),
+    };
+    for node in 0..nodes {
+        let (place, index) = row_start(node);
+        sheet.table.extend(&blocks[place][index..index + 2]);
+        sheet.tapes.extend(&blocks[place][index + 2..index + 4]);
+    }
+    Ok(sheet)
+}
+
+/// The words of each whole block, low byte first.
+pub fn blocks_of(file: &[u8]) -> Vec<Vec<u16>> {
+    file.chunks_exact(BLOCK_BYTES)
+        .map(|block| {
+            block
+                .chunks_exact(2)
+                .map(|bytes| u16::from_le_bytes([bytes[0], bytes[1]]))
+                .collect()
+        })
+        .collect()
+}
+
+pub fn bytes_of(blocks: &[Vec<u16>]) -> Vec<u8> {
+    blocks
+        .iter()
+        .flatten()
+        .flat_map(|word| word.to_le_bytes())
+        .collect()
+}
+
+/// The sum of words modulo 65,536.
+fn sum(words: &[u16]) -> u16 {
+    (words.iter().map(|&word| u32::from(word)).sum::<u32>() % 65_536) as u16
+}
+
+/// Sets the closing word so that the block is sound.
+pub fn close(block: &mut [u16]) {
+    let open_sum = sum(&block[..CLOSING_WORD]);
+    block[CLOSING_WORD] = ((65_536 - u32::from(open_sum)) % 65_536) as u16;
+}
+
+/// Block 0 and just enough blocks for the rows.
+pub fn block_count(nodes: usize) -> usize {
+    1 + nodes.div_ceil(BLOCK_ROWS)
+}
+
+/// The block of a node's row and the index of its first word there.
+pub fn row_start(node: usize) -> (usize, usize) {
+    (1 + node / BLOCK_ROWS, 2 + ROW_WORDS * (node % BLOCK_ROWS))
+}
+
+/// The rows in a block of rows, counted from 1, of a file of this many nodes.
+fn row_count(nodes: usize, place: usize) -> usize {
+    (nodes - BLOCK_ROWS * (place - 1)).min(BLOCK_ROWS)
+}
+
+/// The value of a word that the layout fixes for this many nodes; nothing for n and D, for the
+/// words of rows, and for the closing word.
+pub fn fixed_word(nodes: usize, place: usize, index: usize) -> Option<u16> {
+    match (place, index) {
+        (_, 0) => Some(place as u16),
+        (_, CLOSING_WORD) => None,
+        (0, 2 | 3) => None,
+        (0, _) => Some(0),
+        (_, 1) => Some(row_count(nodes, place) as u16),
+        _ if index - 2 < ROW_WORDS * row_count(nodes, place) => None,
+        _ => Some(0),
+    }
+}
+
+/// The file of a sheet, sound and laid out as the reader wants it.
+pub fn write(sheet: &Sheet) -> Vec<u8> {
+    let nodes = sheet.table.len() / 2;
+    let mut blocks: Vec<Vec<u16>> = (0..block_count(nodes))
+        .map(|place| {
+            (0..BLOCK_WORDS)
+                .map(|index| fixed_word(nodes, place, index).unwrap_or(0))
+                .collect()
+        })
+        .collect();
+    blocks[0][2] = nodes as u16;
+    blocks[0][3] = sheet.separation;
+    for node in 0..nodes {
+        let (place, index) = row_start(node);
+        let row = &mut blocks[place][index..index + ROW_WORDS];
+        row[..2].copy_from_slice(&sheet.table[2 * node..2 * node + 2]);
+        row[2..].copy_from_slice(&sheet.tapes[2 * node..2 * node + 2]);
+    }
+    for block in &mut blocks {
+        close(block);
+    }
+    bytes_of(&blocks)
+}
+
+/// The example of the paper: a root with tape 500 and its leaves 501 and 502, D = 3.
+pub fn example() -> Sheet {
+    let none = crate::table::NONE;
+    Sheet {
+        separation: 3,
+        table: vec![1, none, none, 2, none, none],
+        tapes: vec![500, 0, 501, 0, 502, 0],
+    }
+}
+
+#[cfg(test)]
+mod tests {
+    use super::*;
+    use crate::random::Random;
+
+    #[test]
+    fn the_example_of_the_paper() {
+        let sheet = example();
+        let file = write(&sheet);
+        let blocks = blocks_of(&file);
+        assert_eq!(blocks.len(), 2);
+        assert_eq!(blocks[0][..5], [0, 0, 3, 3, 0]);
+        assert_eq!(blocks[0][255], 65_530);
+        let none = crate::table::NONE;
+        assert_eq!(
+            blocks[1][..15],
+            [1, 3, 1, none, 500, 0, none, 2, 501, 0, none, none, 502, 0, 0]
+        );
+        assert_eq!(blocks[1][255], 64_030);
+        let read = read(&file, &[9; 7], &[8; 6]);
+        assert_eq!((read.number, read.nodes, read.separation), (0, 3, 3));
+        assert_eq!(read.table[..6], sheet.table);
+        assert_eq!(read.table[6], 9);
+        assert_eq!(read.tapes, sheet.tapes);
+    }
+
+    #[test]
+    fn counts_of_blocks() {
+        for (nodes, blocks) in [(1, 2), (63, 2), (64, 3), (126, 3), (127, 4), (1_024, 18)] {
+            assert_eq!(block_count(nodes), blocks);
+        }
+        assert_eq!(row_count(1_024, 17), 16);
+        assert_eq!(row_count(126, 2), 63);
+        assert_eq!(row_start(63), (2, 2));
+        assert_eq!(row_start(62), (1, 250));
+    }
+
+    #[test]
+    fn what_is_written_is_read() {
+        let mut random = Random::new(3);
+        for nodes in [1, 2, 62, 63, 64, 126, 127, 500, 1_008, 1_009, 1_024] {
+            let sheet = Sheet {
+                separation: random.between(1, 1_024) as u16,
+                table: (0..2 * nodes).map(|_| random.word()).collect(),
+                tapes: (0..2 * nodes).map(|_| random.word()).collect(),
+            };
+            let read = contents(&write(&sheet), 2 * nodes, 2 * nodes);
+            assert_eq!(read, Ok(sheet));
+        }
+    }
+
+    #[test]
+    fn refusals_in_order() {
+        let file = write(&example());
+        let number = |file: &[u8]| read(file, &[0; 6], &[0; 6]).number;
+        assert_eq!(number(&[]), 9);
+        assert_eq!(number(&file[..512]), 9);
+        assert_eq!(number(&file[..1_023]), 9);
+        assert_eq!(number(&[0; 9_728]), 9);
+        assert_eq!(number(&[0; 1_024]), 11);
+        let mut flipped = file.clone();
+        flipped[600] ^= 1;
+        assert_eq!(number(&flipped), 10);
+        let changed = |place: usize, index: usize, value: u16| {
+            let mut blocks = blocks_of(&file);
+            blocks[place][index] = value;
+            close(&mut blocks[place]);
+            number(&bytes_of(&blocks))
+        };
+        assert_eq!(changed(1, 0, 2), 11);
+        assert_eq!(changed(0, 1, 1), 12);
+        assert_eq!(changed(0, 2, 0), 12);
+        assert_eq!(changed(0, 2, 4), 12);
+        assert_eq!(changed(0, 3, 0), 12);
+        assert_eq!(changed(0, 3, 1_024), 0);
+        assert_eq!(changed(0, 3, 1_025), 12);
+        assert_eq!(changed(0, 254, 1), 12);
+        assert_eq!(changed(1, 1, 63), 12);
+        assert_eq!(changed(1, 13, 1), 0);
+        assert_eq!(changed(1, 14, 1), 12);
+        assert_eq!(changed(1, 254, 1), 12);
+        assert_eq!(read(&file, &[0; 5], &[0; 6]).number, 7);
+        assert_eq!(read(&file, &[0; 6], &[0; 5]).number, 7);
+    }
+}

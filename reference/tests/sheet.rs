@@ -1,0 +1,378 @@
+//! The library's sheet reader held against the model, call by call.
+//!
+//! The two slices lie between margins and hold random entries at first, the result fields too.
+//! After a refusal every entry must be as it was and both fields 0; after an acceptance every
+//! entry past those named must be as it was.
+
+use reference::ffi;
+use reference::lent::Lent;
+use reference::random::Random;
+use reference::run::Run;
+use reference::sheet::{self, Sheet, BLOCK_BYTES, BLOCK_WORDS, CLOSING_WORD, MOST_BLOCKS};
+use std::fmt;
+
+/// What a call was given, for the message of a failure.
+struct Call<'a> {
+    file: &'a [u8],
+    table_len: usize,
+    tapes_len: usize,
+}
+
+impl fmt::Display for Call<'_> {
+    fn fmt(&self, f: &mut fmt::Formatter) -> fmt::Result {
+        write!(
+            f,
+            "read_sheet with table_len {}, tapes_len {}, a file of {} bytes: {:?}",
+            self.table_len,
+            self.tapes_len,
+            self.file.len(),
+            &self.file[..self.file.len().min(32)]
+        )
+    }
+}
+
+/// A sheet of so many nodes with random words in its rows: the reader does not judge the tree.
+fn random_sheet(nodes: usize, random: &mut Random) -> Sheet {
+    Sheet {
+        separation: random.between(1, 1_024) as u16,
+        table: (0..2 * nodes).map(|_| random.word()).collect(),
+        tapes: (0..2 * nodes).map(|_| random.word()).collect(),
+    }
+}
+
+fn random_bytes(len: usize, random: &mut Random) -> Vec<u8> {
+    (0..len).map(|_| random.bits() as u8).collect()
+}
+
+/// The greatest count of nodes in a file of so many blocks.
+fn most_nodes(blocks: usize) -> usize {
+    (63 * (blocks - 1)).min(1_024)
+}
+
+struct Comparison {
+    run: Run,
+}
+
+impl Comparison {
+    fn read(&mut self, file: &[u8], table_len: usize, tapes_len: usize) -> u16 {
+        self.run.count_call();
+        let call = Call {
+            file,
+            table_len,
+            tapes_len,
+        };
+        let given = file.to_vec();
+        let random = &mut self.run.random;
+        let mut nodes: Lent<u16> = Lent::new(1, random);
+        let mut separation: Lent<u16> = Lent::new(1, random);
+        let mut table: Lent<u16> = Lent::new(table_len, random);
+        let mut tapes: Lent<u16> = Lent::new(tapes_len, random);
+        let wanted = sheet::read(file, table.before(), tapes.before());
+        let number = ffi::read_sheet(
+            &given,
+            table.slice(),
+            tapes.slice(),
+            &mut nodes.slice()[0],
+            &mut separation.slice()[0],
+        );
+        self.run.count_number(number);
+        let run = &self.run;
+        run.expect("number", number, wanted.number, &call);
+        run.expect("nodes", nodes.after()[0], wanted.nodes, &call);
+        run.expect("D", separation.after()[0], wanted.separation, &call);
+        run.expect_slice("table", table.after(), &wanted.table, &call);
+        run.expect_slice("tapes", tapes.after(), &wanted.tapes, &call);
+        for (what, lent) in [
+            ("nodes", &nodes),
+            ("D", &separation),
+            ("table", &table),
+            ("tapes", &tapes),
+        ] {
+            let what = format!("margins of {what} untouched");
+            run.expect(&what, lent.margins_untouched(), true, &call);
+        }
+        run.expect_slice("file", &given, file, &call);
+        number
+    }
+
+    /// The call and, besides the model's, a number that must come out.
+    fn read_as(&mut self, wanted: u16, what: &str, file: &[u8], slice_len: usize) {
+        let number = self.read(file, slice_len, slice_len);
+        self.run
+            .expect(what, number, wanted, &"the paper's own number");
+    }
+
+    fn example(&mut self) {
+        let sheet = sheet::example();
+        let file = sheet::write(&sheet);
+        let blocks = sheet::blocks_of(&file);
+        let run = &self.run;
+        run.expect("check 0", blocks[0][CLOSING_WORD], 65_530, &"the example");
+        run.expect("check 1", blocks[1][CLOSING_WORD], 64_030, &"the example");
+        self.read_as(0, "the example", &file, 6);
+        self.read_as(7, "the example", &file, 5);
+        self.run.end_section("the example of the paper");
+    }
+
+    /// Slices short by one, exact and longer, in all ways.
+    fn all_slices(&mut self, file: &[u8], nodes: usize) {
+        let longer = 2 * nodes + self.run.random.between(1, 9);
+        let lengths = [2 * nodes - 1, 2 * nodes, longer];
+        for table_len in lengths {
+            for tapes_len in lengths {
+                let number = self.read(file, table_len, tapes_len);
+                let short = table_len < 2 * nodes || tapes_len < 2 * nodes;
+                self.run
+                    .expect("number", number, if short { 7 } else { 0 }, &"a sound file");
+            }
+        }
+    }
+
+    fn sound_files(&mut self) {
+        for nodes in [1, 62, 63, 64, 126, 127, 1_008, 1_009, 1_024] {
+            for _ in 0..20 {
+                let file = sheet::write(&random_sheet(nodes, &mut self.run.random));
+                self.all_slices(&file, nodes);
+                self.read_as(7, "empty slices", &file, 0);
+            }
+            // The low 16 bits of these lengths alone would be too short.
+            let file = sheet::write(&random_sheet(nodes, &mut self.run.random));
+            self.read_as(0, "long slices", &file, 65_536);
+        }
+        for nodes in 1..=1_024 {
+            let file = sheet::write(&random_sheet(nodes, &mut self.run.random));
+            self.all_slices(&file, nodes);
+        }
+        self.run
+            .end_section("sound files of every size, slices short, exact and longer");
+    }
+
+    fn single_bits(&mut self) {
+        let mut file = sheet::write(&random_sheet(100, &mut self.run.random));
+        assert_eq!(file.len(), 3 * BLOCK_BYTES);
+        for bit in 0..8 * file.len() {
+            file[bit / 8] ^= 1 << (bit % 8);
+            self.read_as(10, "one bit", &file, 200);
+            file[bit / 8] ^= 1 << (bit % 8);
+        }
+        self.run
+            .end_section("every single bit of a file of three blocks");
+    }
+
+    /// Whole blocks moved about, as they are and with their places mended.
+    fn moved_blocks(&mut self) {
+        for count in 2..=MOST_BLOCKS {
+            let nodes = most_nodes(count);
+            let file = sheet::write(&random_sheet(nodes, &mut self.run.random));
+            let blocks = sheet::blocks_of(&file);
+            let mut arrangements = Vec::new();
+            for i in 0..count {
+                for j in 0..i {
+                    let mut swapped = blocks.clone();
+                    swapped.swap(i, j);
+                    arrangements.push(swapped);
+                    let mut overwritten = blocks.clone();
+                    overwritten[i] = blocks[j].clone();
+                    arrangements.push(overwritten);
+                }
+                let mut missing = blocks.clone();
+                missing.remove(i);
+                arrangements.push(missing);
+                let mut doubled = blocks.clone();
+                doubled.insert(i, blocks[i].clone());
+                arrangements.push(doubled);
+                let mut zeroed = blocks.clone();
+                zeroed[i].fill(0);
+                arrangements.push(zeroed);
+                let mut turned = blocks.clone();
+                turned.rotate_left(i);
+                arrangements.push(turned);
+            }
+            for _ in 0..20 {
+                let mut reordered = blocks.clone();
+                self.run.random.shuffle(&mut reordered);
+                arrangements.push(reordered);
+            }
+            for mut arrangement in arrangements {
+                self.read(&sheet::bytes_of(&arrangement), 2 * nodes, 2 * nodes);
+                for (place, block) in arrangement.iter_mut().enumerate() {
+                    block[0] = place as u16;
+                    sheet::close(block);
+                }
+                self.read(&sheet::bytes_of(&arrangement), 2 * nodes, 2 * nodes);
+            }
+        }
+        self.run
+            .end_section("blocks swapped, missing, doubled and reordered");
+    }
+
+    /// Each word that the layout fixes, changed in several ways with the check mended.
+    fn fixed_words(&mut self) {
+        for nodes in [1, 5, 62, 63, 64, 126, 127, 1_009, 1_024] {
+            let file = sheet::write(&random_sheet(nodes, &mut self.run.random));
+            let mut blocks = sheet::blocks_of(&file);
+            for place in 0..blocks.len() {
+                for index in 0..BLOCK_WORDS {
+                    let Some(value) = sheet::fixed_word(nodes, place, index) else {
+                        continue;
+                    };
+                    let bit = 1 << self.run.random.below(16);
+                    let wrongs = [
+                        value.wrapping_add(1),
+                        value.wrapping_sub(1),
+                        value ^ bit,
+                        value.swap_bytes() ^ 0x0100,
+                    ];
+                    let wanted = if index == 0 { 11 } else { 12 };
+                    for wrong in wrongs.into_iter().filter(|&wrong| wrong != value) {
+                        blocks[place][index] = wrong;
+                        sheet::close(&mut blocks[place]);
+                        let file = sheet::bytes_of(&blocks);
+                        self.read_as(wanted, "a fixed word", &file, 2 * nodes);
+                    }
+                    blocks[place][index] = value;
+                    sheet::close(&mut blocks[place]);
+                }
+            }
+            self.read_as(0, "all words mended", &sheet::bytes_of(&blocks), 2 * nodes);
+        }
+        self.run
+            .end_section("each fixed word changed with the check mended");
+    }
+
+    /// n and D at their bounds in files of every length.
+    fn bounds(&mut self) {
+        let values = [
+            0, 1, 2, 62, 63, 64, 126, 127, 1_008, 1_009, 1_023, 1_024, 1_025, 32_768, 65_535,
+        ];
+        for blocks in 2..=MOST_BLOCKS {
+            let nodes = most_nodes(blocks);
+            let sheet = random_sheet(nodes, &mut self.run.random);
+            for n in values {
+                for separation in [0, 1, 512, 1_024, 1_025, 65_535] {
+                    let mut blocks = sheet::blocks_of(&sheet::write(&sheet));
+                    blocks[0][2] = n;
+                    blocks[0][3] = separation;
+                    sheet::close(&mut blocks[0]);
+                    let file = sheet::bytes_of(&blocks);
+                    let number = self.read(&file, 2_048, 2_048);
+                    let taken = usize::from(n) == nodes && (1..=1_024).contains(&separation);
+                    let wanted = if taken { 0 } else { 12 };
+                    self.run
+                        .expect("number", number, wanted, &"n and D at their bounds");
+                    self.read(&file, 2 * nodes - 1, 2 * nodes);
+                }
+            }
+        }
+        self.run.end_section("n and D at their bounds");
+    }
+
+    fn lengths(&mut self) {
+        for len in (0..=1_600)
+            .chain(9_216..=9_730)
+            .chain([10_240, 65_536, 66_560])
+        {
+            for nodes in [63, 1_024] {
+                // A sound file cut off or followed by zeros, zeros alone, and random bytes.
+                let mut cut = sheet::write(&random_sheet(nodes, &mut self.run.random));
+                cut.resize(len, 0);
+                for file in [cut, vec![0; len], random_bytes(len, &mut self.run.random)] {
+                    let number = self.read(&file, 2 * nodes, 2 * nodes);
+                    let refused = len % 512 != 0 || !(1_024..=9_216).contains(&len);
+                    self.run.expect(
+                        "refused 9",
+                        number == 9,
+                        refused,
+                        &"a file of a given length",
+                    );
+                }
+            }
+        }
+        self.run.end_section("lengths");
+    }
+
+    /// Random bytes, mended so far that each later condition comes to be tried.
+    fn random_files(&mut self) {
+        for _ in 0..16_000 {
+            let random = &mut self.run.random;
+            let count = random.between(2, MOST_BLOCKS);
+            let nodes = most_nodes(count) - random.below(16);
+            let file = random_bytes(count * BLOCK_BYTES, random);
+            let mut blocks = sheet::blocks_of(&file);
+            let mending = random.below(5);
+            for (place, block) in blocks.iter_mut().enumerate() {
+                if mending >= 2 {
+                    block[0] = place as u16;
+                }
+                for (index, word) in block.iter_mut().enumerate() {
+                    match sheet::fixed_word(nodes, place, index) {
+                        Some(value) if mending >= 4 => *word = value,
+                        _ => (),
+                    }
+                }
+            }
+            if mending >= 3 {
+                blocks[0][2] = nodes as u16;
+                blocks[0][3] = random.between(1, 1_024) as u16;
+            }
+            if mending >= 1 {
+                blocks.iter_mut().for_each(|block| sheet::close(block));
+            }
+            let slice_len = 2 * nodes - random.below(2);
+            self.read(&sheet::bytes_of(&blocks), slice_len, 2 * nodes);
+        }
+        self.run.end_section("random bytes, mended by steps");
+    }
+
+    /// Sound files with one to four words changed, each block's check mended or not.
+    fn damaged_files(&mut self) {
+        for _ in 0..30_000 {
+            let random = &mut self.run.random;
+            let nodes = match random.below(8) {
+                0 => random.between(1, 1_024),
+                _ => random.between(1, 200),
+            };
+            let sheet = random_sheet(nodes, random);
+            let mut blocks = sheet::blocks_of(&sheet::write(&sheet));
+            for _ in 0..random.between(1, 4) {
+                let place = random.below(blocks.len());
+                let index = match random.below(3) {
+                    0 => random.below(4),
+                    1 => random.below(BLOCK_WORDS),
+                    _ => random.between(2, 253),
+                };
+                blocks[place][index] = match random.below(4) {
+                    0 => 0,
+                    1 => blocks[place][index].wrapping_add(1),
+                    2 => random.below(1_026) as u16,
+                    _ => random.word(),
+                };
+                if !random.once_in(4) {
+                    sheet::close(&mut blocks[place]);
+                }
+            }
+            let table_len = 2 * nodes + 1 - random.below(3);
+            let tapes_len = 2 * nodes + 1 - random.below(3);
+            self.read(&sheet::bytes_of(&blocks), table_len, tapes_len);
+        }
+        self.run
+            .end_section("one to four words changed, checks mended or not");
+    }
+}
+
+#[test]
+fn the_sheet_reader_agrees_with_the_model() {
+    let mut comparison = Comparison {
+        run: Run::start("sheet"),
+    };
+    comparison.example();
+    comparison.sound_files();
+    comparison.single_bits();
+    comparison.moved_blocks();
+    comparison.fixed_words();
+    comparison.bounds();
+    comparison.lengths();
+    comparison.random_files();
+    comparison.damaged_files();
+    comparison.run.finish(100_000);
+}
