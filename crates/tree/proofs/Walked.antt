@@ -24,7 +24,7 @@ abbrev pub oneDown : Forest → Forest
 oneDown nil = nil
 oneDown (node v f g) = join f (oneDown g)
 
-size-join : (f g : Forest) → size (join f g) ≡ size f + size g
+pub size-join : (f g : Forest) → size (join f g) ≡ size f + size g
 size-join nil g = omega arith
 size-join (node v f h) g = omega (arith, size-join h g)
 
@@ -32,15 +32,15 @@ size-oneDown : (f : Forest) → size (oneDown f) ≤ size f
 size-oneDown nil = omega arith
 size-oneDown (node v f g) = omega (arith, size-join f (oneDown g), size-oneDown g)
 
-beside-nil : (xs : List (List ℕ)) → beside xs [] ≡ xs
+pub beside-nil {ℓ} : {A : Type ℓ} (xs : List (List A)) → beside xs [] ≡ xs
 beside-nil [] = refl
 beside-nil (x ∷ xs) = refl
 
-pub beside-assoc : (xs ys zs : List (List ℕ)) → beside (beside xs ys) zs ≡ beside xs (beside ys zs)
+pub beside-assoc {ℓ} : {A : Type ℓ} (xs ys zs : List (List A)) → beside (beside xs ys) zs ≡ beside xs (beside ys zs)
 beside-assoc [] ys zs = refl
 beside-assoc (x ∷ xs) [] zs = refl
 beside-assoc (x ∷ xs) (y ∷ ys) [] = refl
-beside-assoc (x ∷ xs) (y ∷ ys) (z ∷ zs) = ap₂ (λ (a : List ℕ) (b : List (List ℕ)). a ∷ b) (append-assoc x y z) (beside-assoc xs ys zs)
+beside-assoc {A = A} (x ∷ xs) (y ∷ ys) (z ∷ zs) = ap₂ (λ (a : List A) (b : List (List A)). a ∷ b) (append-assoc x y z) (beside-assoc xs ys zs)
 
 pub levels-join : (f g : Forest) → levels (join f g) ≡ beside (levels f) (levels g)
 levels-join nil g = refl

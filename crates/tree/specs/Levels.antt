@@ -28,7 +28,7 @@ walk t = walkFrom (nodes t) t (0 ∷ [])
 -- ---- the same, read off a forest
 
 -- two forests' levels side by side
-abbrev pub beside : List (List ℕ) → List (List ℕ) → List (List ℕ)
+abbrev pub beside {ℓ} : {A : Type ℓ} → List (List A) → List (List A) → List (List A)
 beside [] ys = ys
 beside (x ∷ xs) [] = x ∷ xs
 beside (x ∷ xs) (y ∷ ys) = (x ++ y) ∷ beside xs ys

@@ -1,0 +1,13 @@
+-- Proofs about the written rule.
+pub mod Signed
+pub mod Names
+pub mod Pairs
+pub mod Moving
+pub mod Spacing
+pub mod Shapes
+pub mod Within
+pub mod Lookup
+pub mod Exact
+pub mod Width
+pub mod Promises
+pub mod Tight

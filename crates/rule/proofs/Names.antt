@@ -1,0 +1,90 @@
+-- The forest under a drawing: joining and moving leave it as it is, and the drawing's levels are the forest's. Assumes nothing.
+use mathlib.Core.Path.{_≡_, refl, sym, ap, ap₂, _∙_}
+use mathlib.Core.List.{List, [], _∷_, _++_, map}
+use Prim.Native.Nat.{ℕ, zero, suc, _+_}
+use lib.IntN.{ℤ, pos, _+ℤ_, _-ℤ_}
+use Rattle.tree.specs.Forest.{Forest, nil, node}
+use Rattle.tree.specs.Levels.{beside, levels}
+use Rattle.tree.proofs.Counting.{All}
+use Rattle.tree.proofs.Walked.{join as joinForest, levels-join, beside-nil}
+use Rattle.rule.specs.Drawing.{Drawing, none, at, append, middle, Dot, dots, rowDots, firstOf, lastOf, leftContour, rightContour}
+use Rattle.rule.specs.Join.{Meeting, spread, join, meetings, settled}
+use Rattle.rule.specs.Rule.{drawOnto, draw}
+
+-- the nodes of a drawing, without their places
+abbrev pub names : Drawing → Forest
+names none = nil
+names (at v x below after) = node v (names below) (names after)
+
+pub join-nil : (f : Forest) → joinForest f nil ≡ f
+join-nil nil = refl
+join-nil (node v f g) = ap (node v f) (join-nil g)
+
+pub join-assoc : (f g h : Forest) → joinForest (joinForest f g) h ≡ joinForest f (joinForest g h)
+join-assoc nil g h = refl
+join-assoc (node v f k) g h = ap (node v f) (join-assoc k g h)
+
+pub names-append : (d e : Drawing) → names (append d e) ≡ joinForest (names d) (names e)
+names-append none e = refl
+names-append (at v x below after) e = ap (node v (names below)) (names-append after e)
+
+pub names-spread : (j : ℕ) (ms : List Meeting) (p : ℕ) (d : Drawing) → names (spread j ms p d) ≡ names d
+names-spread j ms p none = refl
+names-spread j ms p (at v x below after) = ap (node v (names below)) (names-spread j ms (p + 1) after)
+
+pub names-join : (D : ℕ) (row : Drawing) (v : ℕ) (below : Drawing) → names (join D row v below) ≡ joinForest (names row) (node v (names below) nil)
+names-join D row v below =
+    names-append (spread _ (meetings D row v below) 0 row) (at v (settled D row v below) below none)
+    ∙ ap (λ (f : Forest). joinForest f (node v (names below) nil)) (names-spread _ (meetings D row v below) 0 row)
+
+pub names-drawOnto : (D : ℕ) (row : Drawing) (f : Forest) → names (drawOnto D row f) ≡ joinForest (names row) f
+names-drawOnto D row nil = sym (join-nil (names row))
+names-drawOnto D row (node v f g) =
+    names-drawOnto D (join D row v (drawOnto D none f)) g
+    ∙ ap (λ (h : Forest). joinForest h g) (names-join D row v (drawOnto D none f))
+    ∙ join-assoc (names row) (node v (names (drawOnto D none f)) nil) g
+    ∙ ap (λ (h : Forest). joinForest (names row) (node v h g)) (names-drawOnto D none f)
+
+-- the drawing of a forest is one of that forest
+pub names-draw : (D : ℕ) (f : Forest) → names (draw D f) ≡ f
+names-draw D f = names-drawOnto D none f
+
+-- ---- levels
+
+pub map-beside : {A B : Type 0} (f : A → B) (xs ys : List (List A)) → map (map f) (beside xs ys) ≡ beside (map (map f) xs) (map (map f) ys)
+map-beside f [] ys = refl
+map-beside f (x ∷ xs) [] = refl
+map-beside {B = B} f (x ∷ xs) (y ∷ ys) = ap₂ (λ (l : List B) (ls : List (List B)). l ∷ ls) (map-append x y) (map-beside f xs ys)
+  where
+    map-append : (l m : List _) → map f (l ++ m) ≡ map f l ++ map f m
+    map-append [] m = refl
+    map-append (a ∷ l) m = ap (λ (r : List B). f a ∷ r) (map-append l m)
+
+pub nodes-dots : (i : ℕ) (o : ℤ) (d : Drawing) → map (map (λ e. e .node)) (dots i o d) ≡ levels (names d)
+nodes-dots i o none = refl
+nodes-dots i o (at v x below after) =
+    map-beside (λ e. e .node) (_ ∷ dots i (o +ℤ pos x -ℤ pos (middle below)) below) (dots i o after)
+    ∙ ap₂ beside (ap (λ (l : List (List ℕ)). (v ∷ []) ∷ l) (nodes-dots i (o +ℤ pos x -ℤ pos (middle below)) below)) (nodes-dots i o after)
+
+pub nodes-rowDots : (i : ℕ) (d : Drawing) → map (map (λ e. e .node)) (rowDots i d) ≡ levels (names d)
+nodes-rowDots i none = refl
+nodes-rowDots i (at v x below after) =
+    map-beside (λ e. e .node) (dots i (pos 0) (at v x below none)) (rowDots (i + 1) after)
+    ∙ ap₂ beside (nodes-dots i (pos 0) (at v x below none) ∙ beside-nil ((v ∷ []) ∷ levels (names below))) (nodes-rowDots (i + 1) after)
+
+-- ---- levels with some node on each
+
+pub data Some {A : Type 0} : List A → Type 0 where
+  some : {x : A} {l : List A} → Some (x ∷ l)
+
+pub beside-some : {A : Type 0} (xs ys : List (List A)) → All Some xs → All Some ys → All Some (beside xs ys)
+beside-some [] ys a b = b
+beside-some (x ∷ xs) [] a b = a
+beside-some {A = A} (x ∷ xs) (y ∷ ys) a b = (front x y (a .0), beside-some xs ys (a .1) (b .1))
+  where
+    front : (l m : List A) → Some l → Some (l ++ m)
+    front (x ∷ l) m s = some
+
+pub levels-some : (f : Forest) → All Some (levels f)
+levels-some nil = tt
+levels-some (node v f g) = beside-some ((v ∷ []) ∷ levels f) (levels g) (some, levels-some f) (levels-some g)

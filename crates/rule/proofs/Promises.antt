@@ -1,0 +1,237 @@
+-- The promises of the written rule, for every accepted table and every separation. Assumes nothing.
+use mathlib.Core.Path.{_≡_, refl, sym, ap, ap₂, _∙_, subst, subst₂}
+use mathlib.Core.Logic.{_⊎_, inl, inr, ⊎-elim}
+use mathlib.Core.Bool.{Bool, true, false, cond, _&&_}
+use mathlib.Core.List.{List, [], _∷_, _++_, map, List·Memᴰ, List·Memᴰ·head, List·Memᴰ·tail}
+use Prim.Native.Nat.{ℕ, zero, suc, _+_, _*_, _≤_, _<_}
+use native.Mathlib.Omega.{arith}
+use lib.Dec.{eqb}
+use lib.IntN.{ℤ, pos, _+ℤ_, _-ℤ_}
+use lib.Signed.{_≤ℤ_}
+use lib.ListN.{length, length-append}
+use borrow.Author.Tests.{eqb-true}
+use Rattle.tree.specs.Numbers.{is, count, flatMap}
+use Rattle.tree.specs.Table.{nodes, firstChild}
+use Rattle.tree.specs.Forest.{Forest, nil, node, forest, forestFrom, treeOf, preorder, size, entry, siblings}
+use Rattle.tree.specs.Levels.{Pair, beside, levels, level, levelCount, sideBySide, neighbours}
+use Rattle.tree.specs.Shape.{under, sameOrderedShape, correspondingUnder, corresponding}
+use Rattle.tree.specs.WellFormed.{tableNumber}
+use Rattle.tree.proofs.Counting.{All, all-append, all-left, sumOver, is-same, is-cases, below-or-not, count-append, count-outside}
+use Rattle.tree.proofs.Tests.{true-or-false}
+use Rattle.tree.proofs.Reading.{size-preorder}
+use Rattle.tree.proofs.Linked.{read-back}
+use Rattle.tree.proofs.Parts.{Part, locate, part-agrees, part-below, part-size}
+use Rattle.tree.proofs.Stands.{Numbers, accepted-numbers, accepted-size, accepted-agrees}
+use Rattle.rule.specs.Drawing.{Drawing, none, at, width, middle, Dot, dot, dots}
+use Rattle.rule.specs.Rule.{draw, drawn, recorded}
+use Rattle.rule.specs.Record.{isPair, pairCount, SamePairs}
+use Rattle.rule.specs.Result.{place}
+use Rattle.rule.proofs.Signed.{parts-add, parts-sub, parts-eq, parts-le}
+use Rattle.rule.proofs.Names.{Some, some, levels-some, names-draw}
+use Rattle.rule.proofs.Pairs.{pairs-record, pairsIn}
+use Rattle.rule.proofs.Spacing.{Spaced, all-weaken, row-child, row-drawOnto, row-none}
+use Rattle.rule.proofs.Shapes.{blank, blank-middle, same-drawing}
+use Rattle.rule.proofs.Within.{OnLevel, top, down, Stands, has-stands, has-draw, Alike, blank-alike, Match, alike-match}
+use Rattle.rule.proofs.Lookup.{together, nodesOf, count-levels, nodes-drawn, dot-place, dot-level}
+
+-- ---- 1. the measured pairs are the neighbours
+
+pairCount-sum : (a b : ℕ) (l : List Pair) → pairCount a b l ≡ sumOver (isPair a b) l
+pairCount-sum a b [] = refl
+pairCount-sum a b (p ∷ l) = omega (arith, pairCount-sum a b l)
+
+length-sum : (l : List Pair) → length l ≡ sumOver (λ p. 1) l
+length-sum [] = refl
+length-sum (p ∷ l) = omega (arith, length-sum l)
+
+weighed : (w : Pair → ℕ) (D : ℕ) (t : List ℕ) → sumOver w (recorded D t) ≡ sumOver w (neighbours t)
+unfolding recorded neighbours
+weighed w D t =
+    omega (arith, pairs-record w D none (treeOf t), ap (λ (f : Forest). sumOver w (pairsIn (levels f))) (names-draw D (treeOf t)))
+
+-- the measured pairs are the pairs of neighbours, each as often
+pub measured-neighbours : (D : ℕ) (t : List ℕ) → SamePairs (recorded D t) (neighbours t)
+measured-neighbours D t =
+    record {
+      many = length-sum (recorded D t) ∙ weighed (λ p. 1) D t ∙ sym (length-sum (neighbours t));
+      each = λ a b. pairCount-sum a b (recorded D t) ∙ weighed (isPair a b) D t ∙ sym (pairCount-sum a b (neighbours t))
+    }
+
+-- a pair on a level takes up one occurrence of its left node
+pair-le : (a b : ℕ) (p : Pair) → isPair a b p ≤ is a (p .0)
+pair-le a b p = go (eqb a (p .0)) (eqb b (p .1))
+  where
+    go : (x y : Bool) → cond (x && y) 1 0 ≤ cond {A = ℕ} x 1 0
+    go true true = omega arith
+    go true false = omega arith
+    go false y = omega arith
+
+level-once : (a b : ℕ) (l : List ℕ) → pairCount a b (sideBySide l) ≤ count a l
+level-once a b [] = omega arith
+level-once a b (x ∷ []) = omega arith
+level-once a b (x ∷ y ∷ l) = omega (arith, pair-le a b (x, y), level-once a b (y ∷ l))
+
+levels-once : (a b : ℕ) (ls : List (List ℕ)) → pairCount a b (pairsIn ls) ≤ count a (together ls)
+levels-once a b [] = omega arith
+levels-once a b (l ∷ ls) =
+    omega (arith, levels-once a b ls, level-once a b l, append (sideBySide l) (pairsIn ls), count-append a l (together ls))
+  where
+    append : (l m : List Pair) → pairCount a b (l ++ m) ≡ pairCount a b l + pairCount a b m
+    append [] m = omega arith
+    append (p ∷ l) m = omega (arith, append l m)
+
+level-pairs : (l : List ℕ) → Some l → length (sideBySide l) + 1 ≡ length l
+level-pairs (x ∷ []) h = refl
+level-pairs (x ∷ y ∷ l) h = omega (arith, level-pairs (y ∷ l) some)
+
+levels-pairs : (ls : List (List ℕ)) → All Some ls → length (pairsIn ls) + length ls ≡ length (together ls)
+levels-pairs [] a = refl
+levels-pairs (l ∷ ls) a =
+    omega (arith, levels-pairs ls (a .1), level-pairs l (a .0), length-append (sideBySide l) (pairsIn ls), length-append l (together ls))
+
+length-levels : (f : Forest) → length (together (levels f)) ≡ size f
+length-levels nil = refl
+length-levels (node v f g) = omega (arith, beside-length ((v ∷ []) ∷ levels f) (levels g), length-levels f, length-levels g)
+  where
+    beside-length : (xs ys : List (List ℕ)) → length (together (beside xs ys)) ≡ length (together xs) + length (together ys)
+    beside-length [] ys = omega arith
+    beside-length (x ∷ xs) [] = omega arith
+    beside-length (x ∷ xs) (y ∷ ys) =
+        omega (arith, beside-length xs ys, length-append x y, length-append (x ++ y) (together (beside xs ys)), length-append x (together xs), length-append y (together ys))
+
+module _ (t : List ℕ) (accepted : tableNumber t ≡ 0) where
+  -- each pair of neighbours once
+  pub neighbours-once : (a b : ℕ) → pairCount a b (neighbours t) ≤ 1
+  unfolding neighbours
+  neighbours-once a b =
+      ⊎-elim (λ h. omega (arith, levels-once a b (levels (treeOf t)), count-levels a (treeOf t), accepted-numbers t accepted .each a (h .0)))
+      (λ h. omega (arith, levels-once a b (levels (treeOf t)), count-levels a (treeOf t)
+          , count-outside (nodes t) (preorder (treeOf t)) (accepted-numbers t accepted .below) a (h .0)))
+      (below-or-not a (nodes t))
+
+  -- pairs and levels together are as many as the nodes
+  pub neighbours-count : length (neighbours t) + levelCount t ≡ nodes t
+  unfolding neighbours levelCount
+  neighbours-count = omega (arith, levels-pairs (levels (treeOf t)) (levels-some (treeOf t)), length-levels (treeOf t), accepted-size t accepted)
+
+-- ---- 2. each level keeps tree order
+
+-- the neighbours on a list of levels, each dot of which stands where `spot` says, keep their distance
+spaced-pairs : (D : ℕ) (spot : ℕ → ℤ) (xs : List (List Dot)) → All (Spaced D) xs → ((e : Dot) (l : ℕ) → OnLevel e l xs → spot (e .node) ≡ e .place)
+    → All (λ p. (spot (p .0) +ℤ pos D) ≤ℤ (spot (p .1))) (pairsIn (map nodesOf xs))
+spaced-pairs D spot [] s h = tt
+spaced-pairs D spot (x ∷ xs) s h =
+    all-append (λ p. (spot (p .0) +ℤ pos D) ≤ℤ (spot (p .1))) (sideBySide (nodesOf x)) (pairsIn (map nodesOf xs))
+    (one x (s .0) (λ e m. h e 0 (top m)))
+    (spaced-pairs D spot xs (s .1) (λ e l o. h e (suc l) (down o)))
+  where
+    one : (x : List Dot) → Spaced D x → ((e : Dot) → List·Memᴰ e x → spot (e .node) ≡ e .place)
+        → All (λ p. (spot (p .0) +ℤ pos D) ≤ℤ (spot (p .1))) (sideBySide (nodesOf x))
+    one [] s h = tt
+    one (d ∷ []) s h = tt
+    one (d ∷ e ∷ l) s h =
+        ( subst₂ (λ (a b : ℤ). (a +ℤ pos D) ≤ℤ b) (sym (h d (List·Memᴰ·head refl))) (sym (h e (List·Memᴰ·tail (List·Memᴰ·head refl))))
+          (parts-le (d .place +ℤ pos D) (e .place) (s .0 .apart))
+        , one (e ∷ l) (s .1) (λ f m. h f (List·Memᴰ·tail m)))
+
+-- of every two neighbours the right one stands at least the separation further right
+pub neighbours-apart : (D : ℕ) (t : List ℕ) → tableNumber t ≡ 0 → All (λ p. (place D t (p .0) +ℤ pos D) ≤ℤ (place D t (p .1))) (neighbours t)
+unfolding neighbours drawn
+neighbours-apart D t accepted =
+    subst (λ (ls : List (List ℕ)). All (λ p. (place D t (p .0) +ℤ pos D) ≤ℤ (place D t (p .1))) (pairsIn ls)) (nodes-drawn D t accepted)
+    (spaced-pairs D (place D t) (drawn D t)
+      (row-child D 0 (width (draw D (treeOf t))) (pos 0) (draw D (treeOf t)) (row-drawOnto D none (treeOf t) (row-none D)) .spaced)
+      (dot-place D t accepted))
+
+-- ---- 3. equal ordered shapes are drawn equally
+
+-- node v of an accepted table heads a part of its tree, in front of its children
+pub part-at : (t : List ℕ) → tableNumber t ≡ 0 → (v : ℕ) → v < nodes t → (g : Forest) × Part (node v (under t v) g) (treeOf t)
+unfolding under forest
+part-at t accepted v h =
+    let N = accepted-numbers t accepted in
+    let r = locate (treeOf t) v (omega (arith, N .each v h)) in
+    let a = part-agrees t (r .2) (accepted-agrees t accepted) in
+    let b = part-below (nodes t) (r .2) (N .below) in
+    let reads : forestFrom (nodes t) t (firstChild t v) ≡ r .0 =
+        ap (forestFrom (nodes t) t) (a .0)
+        ∙ read-back t (N .few) (r .0) (a .2) (all-left (λ x. x < nodes t) (preorder (r .0)) (preorder (r .1)) (b .1)) (nodes t)
+          (omega (arith, part-size (r .2), accepted-size t accepted)) in
+    (r .1, subst (λ (f : Forest). Part (node v f (r .1)) (treeOf t)) (sym reads) (r .2))
+
+-- where node v of an accepted table stands, with what is drawn below it
+pub stands-at : (D : ℕ) (t : List ℕ) → tableNumber t ≡ 0 → (v : ℕ) → v < nodes t → Stands 0 v (draw D (under t v)) (drawn D t)
+unfolding drawn
+stands-at D t accepted v h = has-stands 0 (pos 0) (has-draw D none (part-at t accepted v h .1))
+
+-- two nodes, in one table or in two, with one sideways shift and one difference in depth at every two corresponding nodes below them
+pub record DrawnEqually (D : ℕ) (t : List ℕ) (v : ℕ) (u : List ℕ) (w : ℕ) : Type 0 where
+  pub shift : ℤ
+  pub depth : ℤ
+  pub places : All (λ p. place D u (p .1) ≡ place D t (p .0) +ℤ shift) (correspondingUnder t v u w)
+  pub levels : All (λ p. pos (level u (p .1)) ≡ pos (level t (p .0)) +ℤ depth) (correspondingUnder t v u w)
+
+pub shapes-equal : (D : ℕ) (t u : List ℕ) → tableNumber t ≡ 0 → tableNumber u ≡ 0 → (v w : ℕ) → v < nodes t → w < nodes u
+    → sameOrderedShape t v u w ≡ true → DrawnEqually D t v u w
+unfolding sameOrderedShape correspondingUnder
+shapes-equal D t u ok ok′ v w hv hw same =
+    record {
+      shift = S′ .place -ℤ S .place;
+      depth = pos (S′ .level) -ℤ pos (S .level);
+      places = (root-place, all-weaken (Match 0 0 o q (dots 0 o b) (dots 0 q b′)) _ below-place (corresponding (under t v) (under u w)) matches);
+      levels = (root-level, all-weaken (Match 0 0 o q (dots 0 o b) (dots 0 q b′)) _ below-level (corresponding (under t v) (under u w)) matches)
+    }
+  where
+    b : Drawing
+    b = draw D (under t v)
+    b′ : Drawing
+    b′ = draw D (under u w)
+    S : Stands 0 v b (drawn D t)
+    S = stands-at D t ok v hv
+    S′ : Stands 0 w b′ (drawn D u)
+    S′ = stands-at D u ok′ w hw
+    o : ℤ
+    o = S .place -ℤ pos (middle b)
+    q : ℤ
+    q = S′ .place -ℤ pos (middle b′)
+    alike : blank b ≡ blank b′
+    alike = same-drawing D (under t v) (under u w) same
+    middles : middle b ≡ middle b′
+    middles = sym (blank-middle b) ∙ ap middle alike ∙ blank-middle b′
+    matches : All (Match 0 0 o q (dots 0 o b) (dots 0 q b′)) (corresponding (under t v) (under u w))
+    matches =
+        subst₂ (λ (f g : Forest). All (Match 0 0 o q (dots 0 o b) (dots 0 q b′)) (corresponding f g)) (names-draw D (under t v)) (names-draw D (under u w))
+        (alike-match 0 0 o q b b′ (blank-alike b b′ alike))
+    across : (x y : ℤ) → y ≡ x +ℤ (y -ℤ x)
+    across x y = parts-eq y (x +ℤ (y -ℤ x)) (omega (arith, parts-sub y x, parts-add x (y -ℤ x)))
+    root-place : place D u w ≡ place D t v +ℤ (S′ .place -ℤ S .place)
+    root-place =
+        dot-place D u ok′ (dot 0 w (S′ .place)) (S′ .level) (S′ .root)
+        ∙ across (S .place) (S′ .place)
+        ∙ ap (λ (z : ℤ). z +ℤ (S′ .place -ℤ S .place)) (sym (dot-place D t ok (dot 0 v (S .place)) (S .level) (S .root)))
+    root-level : pos (level u w) ≡ pos (level t v) +ℤ (pos (S′ .level) -ℤ pos (S .level))
+    root-level =
+        ap pos (dot-level D u ok′ (dot 0 w (S′ .place)) (S′ .level) (S′ .root))
+        ∙ across (pos (S .level)) (pos (S′ .level))
+        ∙ ap (λ (z : ℕ). pos z +ℤ (pos (S′ .level) -ℤ pos (S .level))) (sym (dot-level D t ok (dot 0 v (S .place)) (S .level) (S .root)))
+    moved : (d : ℤ) → q +ℤ d ≡ (o +ℤ d) +ℤ (S′ .place -ℤ S .place)
+    moved d =
+        parts-eq (q +ℤ d) ((o +ℤ d) +ℤ (S′ .place -ℤ S .place))
+        (omega (arith, middles, parts-sub (S .place) (pos (middle b)), parts-sub (S′ .place) (pos (middle b′)), parts-add q d, parts-add o d
+        , parts-sub (S′ .place) (S .place), parts-add (o +ℤ d) (S′ .place -ℤ S .place)))
+    below-place : (p : Pair) → Match 0 0 o q (dots 0 o b) (dots 0 q b′) p → place D u (p .1) ≡ place D t (p .0) +ℤ (S′ .place -ℤ S .place)
+    below-place p M =
+        dot-place D u ok′ (dot 0 (p .1) (q +ℤ M .distance)) (suc (S′ .level + M .level)) (S′ .under _ (M .level) (M .right))
+        ∙ moved (M .distance)
+        ∙ ap (λ (z : ℤ). z +ℤ (S′ .place -ℤ S .place))
+          (sym (dot-place D t ok (dot 0 (p .0) (o +ℤ M .distance)) (suc (S .level + M .level)) (S .under _ (M .level) (M .left))))
+    deeper : (r : ℕ) → pos (suc (S′ .level + r)) ≡ pos (suc (S .level + r)) +ℤ (pos (S′ .level) -ℤ pos (S .level))
+    deeper r =
+        parts-eq (pos (suc (S′ .level + r))) (pos (suc (S .level + r)) +ℤ (pos (S′ .level) -ℤ pos (S .level)))
+        (omega (arith, parts-sub (pos (S′ .level)) (pos (S .level)), parts-add (pos (suc (S .level + r))) (pos (S′ .level) -ℤ pos (S .level))))
+    below-level : (p : Pair) → Match 0 0 o q (dots 0 o b) (dots 0 q b′) p → pos (level u (p .1)) ≡ pos (level t (p .0)) +ℤ (pos (S′ .level) -ℤ pos (S .level))
+    below-level p M =
+        ap pos (dot-level D u ok′ (dot 0 (p .1) (q +ℤ M .distance)) (suc (S′ .level + M .level)) (S′ .under _ (M .level) (M .right)))
+        ∙ deeper (M .level)
+        ∙ ap (λ (z : ℕ). pos z +ℤ (pos (S′ .level) -ℤ pos (S .level)))
+          (sym (dot-level D t ok (dot 0 (p .0) (o +ℤ M .distance)) (suc (S .level + M .level)) (S .under _ (M .level) (M .left))))

@@ -1,0 +1,70 @@
+-- Signed numbers for `omega`, which reads natural numbers alone. A signed number z is `above0 z` less `below0 z`; a sum, a difference, an
+-- order or an equation of signed numbers is then one of natural numbers. To prove a linear fact, hand `omega` `parts-add` or `parts-sub`
+-- of each sum and difference in it. Assumes nothing.
+use mathlib.Core.Path.{_≡_, refl, sym, ap, _∙_, subst}
+use mathlib.Core.Logic.{_⊎_, inl, inr}
+use mathlib.Core.Bool.{Bool, true, false, cond}
+use Prim.Native.Nat.{ℕ, zero, suc, _+_, _-_, _≤_, _<_}
+use native.Mathlib.Omega.{arith}
+use lib.Dec.{T, ltb, leb, leb→le, le→leb, ltb→lt, lt→ltb}
+use lib.IntN.{ℤ, pos, negsuc, subℕ, _+ℤ_, _-ℤ_, negℤ}
+use lib.Signed.{_≤ℤ_, leZ, ltZ}
+use borrow.Author.Tests.{ltb-true, ltb-false}
+use Rattle.rule.specs.Join.{above0}
+
+-- how far a number is below 0
+abbrev pub below0 : ℤ → ℕ
+below0 (pos n) = 0
+below0 (negsuc n) = suc n
+
+-- one of the two parts is 0
+pub one-part : (z : ℤ) → (above0 z ≡ 0) ⊎ (below0 z ≡ 0)
+one-part (pos n) = inr refl
+one-part (negsuc n) = inl refl
+
+-- ---- sums and differences
+
+parts-subℕ : (a b : ℕ) → above0 (subℕ a b) + b ≡ a + below0 (subℕ a b)
+parts-subℕ a b = go (ltb a b) refl
+  where
+    go : (t : Bool) → ltb a b ≡ t → above0 (cond t (negsuc (b - suc a)) (pos (a - b))) + b ≡ a + below0 (cond t (negsuc (b - suc a)) (pos (a - b)))
+    go true e = omega (arith, ltb-true a b e)
+    go false e = omega (arith, ltb-false a b e)
+
+pub parts-add : (x y : ℤ) → above0 (x +ℤ y) + (below0 x + below0 y) ≡ (above0 x + above0 y) + below0 (x +ℤ y)
+parts-add (pos a) (pos b) = refl
+parts-add (pos a) (negsuc b) = omega (arith, parts-subℕ a (suc b))
+parts-add (negsuc a) (pos b) = omega (arith, parts-subℕ b (suc a))
+parts-add (negsuc a) (negsuc b) = omega arith
+
+parts-neg : (x : ℤ) → (above0 (negℤ x) ≡ below0 x) × (below0 (negℤ x) ≡ above0 x)
+parts-neg (pos zero) = (refl, refl)
+parts-neg (pos (suc n)) = (refl, refl)
+parts-neg (negsuc n) = (refl, refl)
+
+pub parts-sub : (x y : ℤ) → above0 (x -ℤ y) + (below0 x + above0 y) ≡ (above0 x + below0 y) + below0 (x -ℤ y)
+parts-sub x y = omega (arith, parts-add x (negℤ y), parts-neg y)
+
+-- ---- equations and orders
+
+pub parts-eq : (x y : ℤ) → above0 x + below0 y ≡ above0 y + below0 x → x ≡ y
+parts-eq (pos a) (pos b) e = ap pos (omega arith)
+parts-eq (pos a) (negsuc b) e = absurd (omega arith)
+parts-eq (negsuc a) (pos b) e = absurd (omega arith)
+parts-eq (negsuc a) (negsuc b) e = ap negsuc (omega arith)
+
+-- x is at most y, said of the parts
+abbrev pub AtMost : ℤ → ℤ → Type 0
+AtMost x y = above0 x + below0 y ≤ above0 y + below0 x
+
+pub at-most : (x y : ℤ) → x ≤ℤ y → AtMost x y
+at-most (pos a) (pos b) h = omega (arith, leb→le a b (h .le))
+at-most (pos a) (negsuc b) h = absurd (h .le)
+at-most (negsuc a) (pos b) h = omega arith
+at-most (negsuc a) (negsuc b) h = omega (arith, leb→le b a (h .le))
+
+pub parts-le : (x y : ℤ) → AtMost x y → x ≤ℤ y
+parts-le (pos a) (pos b) h = record { le = le→leb a b (omega arith) }
+parts-le (pos a) (negsuc b) h = absurd (omega arith)
+parts-le (negsuc a) (pos b) h = record { le = tt }
+parts-le (negsuc a) (negsuc b) h = record { le = le→leb b a (omega arith) }

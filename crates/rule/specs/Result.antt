@@ -1,0 +1,109 @@
+-- What the layout of a table gives, for every input.
+use Prim.Native.Nat.{ℕ, zero, suc, _*_}
+use mathlib.Core.Path.{_≡_}
+use mathlib.Core.Bool.{Bool, cond, not, _||_, _&&_}
+use mathlib.Core.List.{List, [], _∷_, _++_, map}
+use lib.Dec.{eqb, ltb, leb}
+use lib.IntN.{ℤ, pos}
+use lib.Signed.{leZ}
+use lib.ListN.{length, replicate}
+use Rattle.refusal.specs.First.{Condition, _⇐_, first}
+use Rattle.refusal.specs.Slice.{after}
+use Rattle.tree.specs.Numbers.{upTo, flatMap}
+use Rattle.tree.specs.Table
+use Rattle.tree.specs.Levels
+use Rattle.tree.specs.Table.{nodes}
+use Rattle.tree.specs.Levels.{Pair, level, levelCount, neighbours}
+use Rattle.tree.specs.WellFormed.{tableConditions}
+use Rattle.tree.specs.Operations.{unlessRefused}
+use Rattle.rule.specs.Drawing.{Dot}
+use Rattle.rule.specs.Rule.{drawn}
+use Rattle.rule.specs.Record.{SamePairs, flat}
+
+-- ---- places and extremes
+
+-- the place of node v among dots
+abbrev pub placeIn : List Dot → ℕ → ℤ
+placeIn [] v = pos 0
+placeIn (e ∷ l) v = cond (eqb v (e .node)) (e .place) (placeIn l v)
+
+-- the place of node v in a table's drawing
+unfoldable pub place : ℕ → List ℕ → ℕ → ℤ
+place separation t v = placeIn (flatMap (λ l. l) (drawn separation t)) v
+
+-- places and levels by node number
+unfoldable pub placesOf : ℕ → List ℕ → List ℤ
+placesOf separation t = map (place separation t) (upTo (nodes t))
+
+unfoldable pub levelsOf : List ℕ → List ℕ
+levelsOf t = map (level t) (upTo (nodes t))
+
+abbrev pub lesser : ℤ → ℤ → ℤ
+lesser x y = cond (leZ x y) x y
+
+abbrev pub greater : ℤ → ℤ → ℤ
+greater x y = cond (leZ x y) y x
+
+-- the least and the greatest of a list
+abbrev pub leastOf : List ℤ → ℤ
+leastOf [] = pos 0
+leastOf (x ∷ []) = x
+leastOf (x ∷ y ∷ l) = lesser x (leastOf (y ∷ l))
+
+abbrev pub greatestOf : List ℤ → ℤ
+greatestOf [] = pos 0
+greatestOf (x ∷ []) = x
+greatestOf (x ∷ y ∷ l) = greater x (greatestOf (y ∷ l))
+
+-- ---- the operation
+
+-- the slices that are lent
+pub record Slices : Type 0 where
+  pub places : List ℤ
+  pub levels : List ℕ
+  pub theRecord : List ℕ
+  pub work : List ℤ
+
+-- 6: the separation is not in 1 to 1,024
+unfoldable pub badSeparation : ℕ → Bool
+badSeparation separation = not (leb 1 separation && leb separation 1024)
+
+-- 7: a slice of results is too short
+unfoldable pub shortResults : List ℕ → Slices → Bool
+shortResults t s = ltb (length (s .places)) (nodes t) || ltb (length (s .levels)) (nodes t) || ltb (length (s .theRecord)) (2 * nodes t)
+
+-- 8: the working slice is too short
+unfoldable pub shortWork : List ℕ → Slices → Bool
+shortWork t s = ltb (length (s .work)) (16 * nodes t)
+
+unfoldable pub layoutNumber : List ℕ → ℕ → Slices → ℕ
+layoutNumber t separation s =
+    first (tableConditions t ++ (6 ⇐ badSeparation separation ∷ 7 ⇐ shortResults t s ∷ 8 ⇐ shortWork t s ∷ []))
+
+-- the result fields
+pub record Answer : Type 0 where
+  pub number : ℕ
+  pub nodes : ℕ
+  pub levels : ℕ
+  pub least : ℤ
+  pub greatest : ℤ
+  pub pairs : ℕ
+
+-- a signed result where the number is 0, else 0
+abbrev pub signedUnlessRefused : ℕ → ℤ → ℤ
+signedUnlessRefused zero z = z
+signedUnlessRefused (suc k) z = pos 0
+
+-- what a call gives: the answer `a`, and the slices `u` where they held `s`
+pub record Layout (t : List ℕ) (separation : ℕ) (s : Slices) (a : Answer) (u : Slices) : Type 0 where
+  pub number : a .number ≡ layoutNumber t separation s
+  pub nodes : a .nodes ≡ unlessRefused (layoutNumber t separation s) (Table.nodes t)
+  pub levelCount : a .levels ≡ unlessRefused (layoutNumber t separation s) (Levels.levelCount t)
+  pub least : a .least ≡ signedUnlessRefused (layoutNumber t separation s) (leastOf (placesOf separation t))
+  pub greatest : a .greatest ≡ signedUnlessRefused (layoutNumber t separation s) (greatestOf (placesOf separation t))
+  pub pairs : a .pairs ≡ unlessRefused (layoutNumber t separation s) (length (neighbours t))
+  pub places : u .places ≡ after (layoutNumber t separation s) (placesOf separation t) (s .places)
+  pub levels : u .levels ≡ after (layoutNumber t separation s) (levelsOf t) (s .levels)
+  -- the record names the neighbours, each pair once, in an order that is left open
+  pub theRecord : (ps : List Pair) × SamePairs ps (neighbours t) × (u .theRecord ≡ after (layoutNumber t separation s) (flat ps) (s .theRecord))
+  pub work : u .work ≡ after (layoutNumber t separation s) (replicate (16 * Table.nodes t) (pos 0)) (s .work)
