@@ -11,3 +11,6 @@ pub mod Exact
 pub mod Width
 pub mod Promises
 pub mod Tight
+pub mod Extremes
+pub mod AtOnce
+pub mod Cases

@@ -8,8 +8,8 @@ use Prim.Native.Nat.{ℕ, zero, suc, _+_, _-_, _≤_, _<_}
 use native.Mathlib.Omega.{arith}
 use lib.Dec.{T, ltb, leb, leb→le, le→leb, ltb→lt, lt→ltb}
 use lib.IntN.{ℤ, pos, negsuc, subℕ, _+ℤ_, _-ℤ_, negℤ}
-use lib.Signed.{_≤ℤ_, leZ, ltZ}
-use borrow.Author.Tests.{ltb-true, ltb-false}
+use lib.Signed.{_≤ℤ_, leZ, ltZ, mag}
+use borrow.Author.Tests.{ltb-true, ltb-false, leb-true, leb-false}
 use Rattle.rule.specs.Join.{above0}
 
 -- how far a number is below 0
@@ -68,3 +68,40 @@ parts-le (pos a) (pos b) h = record { le = le→leb a b (omega arith) }
 parts-le (pos a) (negsuc b) h = absurd (omega arith)
 parts-le (negsuc a) (pos b) h = record { le = tt }
 parts-le (negsuc a) (negsuc b) h = record { le = le→leb b a (omega arith) }
+
+-- x is below y, said of the parts
+abbrev pub Under : ℤ → ℤ → Type 0
+Under x y = above0 x + below0 y < above0 y + below0 x
+
+-- ---- tests
+
+pub leZ-true : (x y : ℤ) → leZ x y ≡ true → AtMost x y
+leZ-true (pos a) (pos b) e = omega (arith, leb-true a b e)
+leZ-true (pos a) (negsuc b) e = absurd (subst T (sym e) tt)
+leZ-true (negsuc a) (pos b) e = omega arith
+leZ-true (negsuc a) (negsuc b) e = omega (arith, leb-true b a e)
+
+pub leZ-false : (x y : ℤ) → leZ x y ≡ false → Under y x
+leZ-false (pos a) (pos b) e = omega (arith, leb-false a b e)
+leZ-false (pos a) (negsuc b) e = omega arith
+leZ-false (negsuc a) (pos b) e = absurd (subst T e tt)
+leZ-false (negsuc a) (negsuc b) e = omega (arith, leb-false b a e)
+
+pub ltZ-true : (x y : ℤ) → ltZ x y ≡ true → Under x y
+ltZ-true (pos a) (pos b) e = omega (arith, ltb-true a b e)
+ltZ-true (pos a) (negsuc b) e = absurd (subst T (sym e) tt)
+ltZ-true (negsuc a) (pos b) e = omega arith
+ltZ-true (negsuc a) (negsuc b) e = omega (arith, ltb-true b a e)
+
+pub ltZ-false : (x y : ℤ) → ltZ x y ≡ false → AtMost y x
+ltZ-false (pos a) (pos b) e = omega (arith, ltb-false a b e)
+ltZ-false (pos a) (negsuc b) e = omega arith
+ltZ-false (negsuc a) (pos b) e = absurd (subst T e tt)
+ltZ-false (negsuc a) (negsuc b) e = omega (arith, ltb-false b a e)
+
+-- ---- size
+
+-- a number whose parts are both at most k is at most k in size
+pub mag-parts : (z : ℤ) (k : ℕ) → above0 z ≤ k → below0 z ≤ k → mag z ≤ k
+mag-parts (pos n) k h g = h
+mag-parts (negsuc n) k h g = omega arith

@@ -162,11 +162,11 @@ last-append [] m s = refl
 last-append (d ∷ []) (e ∷ m) s = refl
 last-append (d ∷ e ∷ l) m s = last-append (e ∷ l) m s
 
-last-map : (f : Dot → Dot) (l : List Dot) → Some l → lastOf (map f l) ≡ f (lastOf l)
+pub last-map : (f : Dot → Dot) (l : List Dot) → Some l → lastOf (map f l) ≡ f (lastOf l)
 last-map f (d ∷ []) s = refl
 last-map f (d ∷ e ∷ l) s = last-map f (e ∷ l) some
 
-first-map : (f : Dot → Dot) (l : List Dot) → Some l → firstOf (map f l) ≡ f (firstOf l)
+pub first-map : (f : Dot → Dot) (l : List Dot) → Some l → firstOf (map f l) ≡ f (firstOf l)
 first-map f (d ∷ l) s = refl
 
 some-map : {A B : Type 0} (f : A → B) (l : List A) → Some l → Some (map f l)
@@ -220,7 +220,7 @@ module _ (D j : ℕ) where
 
 -- ---- a row moved, a child shifted
 
-all-map : {A B : Type 0} (f : A → B) (P : A → Type 0) (Q : B → Type 0) → ((x : A) → P x → Q (f x)) → (l : List A) → All P l → All Q (map f l)
+pub all-map : {A B : Type 0} (f : A → B) (P : A → Type 0) (Q : B → Type 0) → ((x : A) → P x → Q (f x)) → (l : List A) → All P l → All Q (map f l)
 all-map f P Q h [] a = tt
 all-map f P Q h (x ∷ l) a = (h x (a .0), all-map f P Q h l (a .1))
 

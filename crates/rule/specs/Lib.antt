@@ -2,5 +2,6 @@
 pub mod Drawing
 pub mod Join
 pub mod Rule
+pub mod AtOnce
 pub mod Record
 pub mod Result

@@ -1,0 +1,158 @@
+-- The sheets P1 to P12: for each its table and separation, and the whole of what the written rule gives for it, checked by one computation.
+-- Assumes nothing.
+use mathlib.Core.Path.{_≡_, refl}
+use mathlib.Core.List.{List, [], _∷_, _++_, map}
+use Prim.Native.Nat.{ℕ, zero, suc, _+_, _*_}
+use lib.IntN.{ℤ, pos, negℤ}
+use lib.ListN.{length, replicate}
+use Rattle.refusal.specs.First.{first}
+use Rattle.tree.specs.Table
+use Rattle.tree.specs.Levels
+use Rattle.tree.specs.Table.{none, nodes}
+use Rattle.tree.specs.Forest.{forest, treeOf}
+use Rattle.tree.specs.Levels.{Pair, level, levelCount, neighbours}
+use Rattle.tree.specs.WellFormed.{badLength, badEntry, rootHasSibling, namedTwice, notReached, tableConditions}
+use Rattle.tree.specs.Operations.{unlessRefused}
+use Rattle.rule.specs.Rule.{drawn, recorded}
+use Rattle.rule.specs.Result.{place, placesOf, levelsOf, leastOf, greatestOf, Slices, badSeparation, shortResults, shortWork, layoutNumber, signedUnlessRefused}
+
+pub record Sheet : Type 0 where
+  pub table : List ℕ
+  pub separation : ℕ
+
+-- what a layout gives, but for the working slice: the neighbours in level order stand for the record
+pub record Outcome : Type 0 where
+  pub number : ℕ
+  pub nodes : ℕ
+  pub levelCount : ℕ
+  pub least : ℤ
+  pub greatest : ℤ
+  pub pairs : ℕ
+  pub places : List ℤ
+  pub levels : List ℕ
+  pub neighbours : List Pair
+
+-- slices that are just long enough
+enough : ℕ → Slices
+enough n = record { places = replicate n (pos 0); levels = replicate n 0; theRecord = replicate (2 * n) 0; work = replicate (16 * n) (pos 0) }
+
+listed : {A : Type 0} → ℕ → List A → List A
+listed zero l = l
+listed (suc k) l = []
+
+pub outcome : Sheet → Outcome
+unfolding listed
+outcome s =
+    let t = s .table in
+    let D = s .separation in
+    let k = layoutNumber t D (enough (Table.nodes t)) in
+    record {
+      number = k;
+      nodes = unlessRefused k (Table.nodes t);
+      levelCount = unlessRefused k (Levels.levelCount t);
+      least = signedUnlessRefused k (leastOf (placesOf D t));
+      greatest = signedUnlessRefused k (greatestOf (placesOf D t));
+      pairs = unlessRefused k (length (recorded D t));
+      places = listed k (placesOf D t);
+      levels = listed k (levelsOf t);
+      neighbours = listed k (Levels.neighbours t)
+    }
+
+sheet : List ℕ → ℕ → Sheet
+sheet t D = record { table = t; separation = D }
+
+refused : ℕ → Outcome
+refused k =
+    record { number = k; nodes = 0; levelCount = 0; least = pos 0; greatest = pos 0; pairs = 0; places = []; levels = []; neighbours = [] }
+
+drawing : ℕ → ℕ → ℤ → ℤ → List ℤ → List ℕ → List Pair → Outcome
+drawing n levels least greatest places nodeLevels neighbours =
+    record {
+      number = 0;
+      nodes = n;
+      levelCount = levels;
+      least = least;
+      greatest = greatest;
+      pairs = length neighbours;
+      places = places;
+      levels = nodeLevels;
+      neighbours = neighbours
+    }
+
+-- a leaf with a further sibling, and a last leaf
+inner : ℕ → List ℕ
+inner next = none ∷ next ∷ []
+
+outer : List ℕ
+outer = none ∷ none ∷ []
+
+-- m leaves in a row, numbered from k
+leaves : ℕ → ℕ → List ℕ
+unfolding outer inner
+leaves k zero = []
+leaves k (suc zero) = outer
+leaves k (suc (suc m)) = inner (k + 1) ++ leaves (k + 1) (suc m)
+
+minus : ℕ → ℤ
+minus n = negℤ (pos n)
+
+-- P1 to P12
+pub sheets : List Sheet
+unfolding sheet leaves
+sheets =
+    sheet (none ∷ none ∷ []) 5
+    ∷ sheet (1 ∷ none ∷ 2 ∷ none ∷ none ∷ none ∷ []) 5
+    ∷ sheet (1 ∷ none ∷ leaves 1 2) 10
+    ∷ sheet (1 ∷ none ∷ leaves 1 2) 3
+    ∷ sheet (1 ∷ none ∷ leaves 1 3) 1
+    ∷ sheet (1 ∷ none ∷ 2 ∷ 7 ∷ leaves 2 5 ++ (none ∷ 8 ∷ none ∷ 9 ∷ 10 ∷ none ∷ leaves 10 5)) 4
+    ∷ sheet (1 ∷ none ∷ 2 ∷ 10 ∷ 3 ∷ none ∷ leaves 3 7 ++ (11 ∷ 14 ∷ leaves 11 3) ++ (15 ∷ none ∷ none ∷ 16 ∷ 17 ∷ 22 ∷ leaves 17 5 ++ (none ∷ none ∷ []))) 2
+    ∷ sheet [] 1
+    ∷ sheet (none ∷ 1 ∷ none ∷ none ∷ []) 1
+    ∷ sheet (0 ∷ none ∷ []) 1
+    ∷ sheet (none ∷ none ∷ none ∷ none ∷ []) 1
+    ∷ sheet (none ∷ none ∷ []) 0
+    ∷ []
+
+-- what each gives; in P1 to P7 places, levels and neighbours are written out
+pub expected : List Outcome
+unfolding drawing refused minus
+expected =
+    drawing 1 1 (pos 0) (pos 0)
+      (pos 0 ∷ [])
+      (0 ∷ [])
+      ([])
+    ∷ drawing 3 3 (pos 0) (pos 0)
+      (pos 0 ∷ pos 0 ∷ pos 0 ∷ [])
+      (0 ∷ 1 ∷ 2 ∷ [])
+      ([])
+    ∷ drawing 3 2 (minus 5) (pos 5)
+      (pos 0 ∷ minus 5 ∷ pos 5 ∷ [])
+      (0 ∷ 1 ∷ 1 ∷ [])
+      ((1, 2) ∷ [])
+    ∷ drawing 3 2 (minus 1) (pos 2)
+      (pos 0 ∷ minus 1 ∷ pos 2 ∷ [])
+      (0 ∷ 1 ∷ 1 ∷ [])
+      ((1, 2) ∷ [])
+    ∷ drawing 4 2 (minus 1) (pos 1)
+      (pos 0 ∷ minus 1 ∷ pos 0 ∷ pos 1 ∷ [])
+      (0 ∷ 1 ∷ 1 ∷ 1 ∷ [])
+      ((1, 2) ∷ (2, 3) ∷ [])
+    ∷ drawing 15 3 (minus 18) (pos 18)
+      (pos 0 ∷ minus 10 ∷ minus 18 ∷ minus 14 ∷ minus 10 ∷ minus 6 ∷ minus 2 ∷ minus 4 ∷ pos 2 ∷ pos 10 ∷ pos 2 ∷ pos 6 ∷ pos 10 ∷ pos 14 ∷ pos 18 ∷ [])
+      (0 ∷ 1 ∷ 2 ∷ 2 ∷ 2 ∷ 2 ∷ 2 ∷ 1 ∷ 1 ∷ 1 ∷ 2 ∷ 2 ∷ 2 ∷ 2 ∷ 2 ∷ [])
+      ((1, 7) ∷ (7, 8) ∷ (8, 9) ∷ (2, 3) ∷ (3, 4) ∷ (4, 5) ∷ (5, 6) ∷ (6, 10) ∷ (10, 11) ∷ (11, 12) ∷ (12, 13) ∷ (13, 14) ∷ [])
+    ∷ drawing 23 4 (minus 12) (pos 10)
+      (pos 0 ∷ minus 6 ∷ minus 6 ∷ minus 12 ∷ minus 10 ∷ minus 8 ∷ minus 6 ∷ minus 4 ∷ minus 2 ∷ pos 0 ∷ minus 1 ∷ minus 3 ∷ minus 1 ∷ pos 1 ∷ pos 6 ∷ pos 4 ∷ pos 6 ∷ pos 2 ∷ pos 4 ∷ pos 6 ∷ pos 8 ∷ pos 10 ∷ pos 8 ∷ [])
+      (0 ∷ 1 ∷ 2 ∷ 3 ∷ 3 ∷ 3 ∷ 3 ∷ 3 ∷ 3 ∷ 3 ∷ 1 ∷ 2 ∷ 2 ∷ 2 ∷ 1 ∷ 2 ∷ 2 ∷ 3 ∷ 3 ∷ 3 ∷ 3 ∷ 3 ∷ 2 ∷ [])
+      ((1, 10) ∷ (10, 14) ∷ (2, 11) ∷ (11, 12) ∷ (12, 13) ∷ (13, 15) ∷ (15, 16) ∷ (16, 22) ∷ (3, 4) ∷ (4, 5) ∷ (5, 6) ∷ (6, 7) ∷ (7, 8) ∷ (8, 9) ∷ (9, 17) ∷ (17, 18) ∷ (18, 19) ∷ (19, 20) ∷ (20, 21) ∷ [])
+    ∷ refused 1
+    ∷ refused 3
+    ∷ refused 4
+    ∷ refused 5
+    ∷ refused 6
+    ∷ []
+
+pub checked : map outcome sheets ≡ expected
+unfolding outcome sheets expected drawing refused minus enough leaves inner outer sheet listed forest treeOf level levelCount neighbours badLength badEntry rootHasSibling namedTwice notReached tableConditions drawn recorded place placesOf levelsOf badSeparation shortResults shortWork layoutNumber
+checked = refl

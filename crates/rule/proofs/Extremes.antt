@@ -1,0 +1,179 @@
+-- The extremes of a table's drawing: the least and the greatest place bound every place, the root stands at 0 between them, and they lie at
+-- most n - 1 separations apart, so that every place and every difference of two places is small. Assumes nothing.
+use mathlib.Core.Path.{_≡_, refl, sym, ap, ap₂, _∙_, subst, subst₂}
+use mathlib.Core.Logic.{_⊎_, inl, inr, ⊎-elim}
+use mathlib.Core.Bool.{Bool, true, false, cond}
+use mathlib.Core.List.{List, [], _∷_, _++_, map, List·Memᴰ, List·Memᴰ·head, List·Memᴰ·tail}
+use Prim.Native.Nat.{ℕ, zero, suc, _+_, _-_, _*_, _≤_, _<_}
+use native.Mathlib.Nat.{not-suc-le-zero, mul-le-mul, mul-le-mul-left, mul-le-mul-right, le-trans}
+use native.Mathlib.Omega.{arith}
+use lib.IntN.{ℤ, pos, negsuc, _+ℤ_, _-ℤ_}
+use lib.Signed.{_≤ℤ_, leZ, leZ-yes, mag}
+use lib.Dec.{T}
+use Rattle.tree.specs.Numbers.{upTo, count}
+use Rattle.tree.specs.Table.{nodes}
+use Rattle.tree.specs.Forest.{Forest, nil, node, treeOf, size, entry, siblings, preorder}
+use Rattle.tree.specs.WellFormed.{tableNumber}
+use Rattle.tree.proofs.Counting.{All, all-append}
+use Rattle.tree.proofs.Tests.{all-upTo, upTo-all}
+use Rattle.tree.proofs.Stands.{Numbers, accepted-numbers, accepted-size}
+use Rattle.rule.specs.Drawing.{Drawing, none, at, Dot, dot, dots}
+use Rattle.rule.specs.Join.{above0}
+use Rattle.rule.specs.Rule.{draw, drawn}
+use Rattle.rule.specs.Result.{place, placesOf, lesser, greater, leastOf, greatestOf}
+use Rattle.rule.proofs.Signed.{below0, one-part, parts-add, parts-sub, parts-eq, parts-le, AtMost, leZ-true, leZ-false, mag-parts}
+use Rattle.rule.proofs.Names.{Some, some}
+use Rattle.rule.proofs.Spacing.{all-map, all-weaken}
+use Rattle.rule.proofs.Within.{OnLevel, top, down, on-left, Stands}
+use Rattle.rule.proofs.Lookup.{dot-place}
+use Rattle.rule.proofs.Width.{Narrow, span, narrow-draw}
+use Rattle.rule.proofs.Promises.{stands-at}
+
+-- ---- the least and the greatest of a list
+
+-- what holds of each of the two holds of the lesser and of the greater
+either : (P : ℤ → Type 0) (b : Bool) (x y : ℤ) → P x → P y → P (cond b x y)
+either P true x y p q = p
+either P false x y p q = q
+
+lesser-le : (x y : ℤ) → AtMost (lesser x y) x × AtMost (lesser x y) y
+lesser-le x y = go (leZ x y) refl
+  where
+    go : (b : Bool) → leZ x y ≡ b → AtMost (cond b x y) x × AtMost (cond b x y) y
+    go true e = (omega arith, leZ-true x y e)
+    go false e = (omega (arith, leZ-false x y e), omega arith)
+
+greater-ge : (x y : ℤ) → AtMost x (greater x y) × AtMost y (greater x y)
+greater-ge x y = go (leZ x y) refl
+  where
+    go : (b : Bool) → leZ x y ≡ b → AtMost x (cond b y x) × AtMost y (cond b y x)
+    go true e = (leZ-true x y e, omega arith)
+    go false e = (omega arith, omega (arith, leZ-false x y e))
+
+-- the least and the greatest are in the list
+least-in : (P : ℤ → Type 0) (l : List ℤ) → Some l → All P l → P (leastOf l)
+least-in P (x ∷ []) s a = a .0
+least-in P (x ∷ y ∷ l) s a = either P (leZ x (leastOf (y ∷ l))) x (leastOf (y ∷ l)) (a .0) (least-in P (y ∷ l) some (a .1))
+
+greatest-in : (P : ℤ → Type 0) (l : List ℤ) → Some l → All P l → P (greatestOf l)
+greatest-in P (x ∷ []) s a = a .0
+greatest-in P (x ∷ y ∷ l) s a = either P (leZ x (greatestOf (y ∷ l))) (greatestOf (y ∷ l)) x (greatest-in P (y ∷ l) some (a .1)) (a .0)
+
+-- and bound every element
+pub least-le : (l : List ℤ) → All (λ x. AtMost (leastOf l) x) l
+least-le [] = tt
+least-le (x ∷ []) = (omega arith, tt)
+least-le (x ∷ y ∷ l) =
+    let h = lesser-le x (leastOf (y ∷ l)) in
+    (h .0, all-weaken (λ z. AtMost (leastOf (y ∷ l)) z) (λ z. AtMost (lesser x (leastOf (y ∷ l))) z) (λ z k. omega (arith, k, h .1)) (y ∷ l) (least-le (y ∷ l)))
+
+pub greatest-ge : (l : List ℤ) → All (λ x. AtMost x (greatestOf l)) l
+greatest-ge [] = tt
+greatest-ge (x ∷ []) = (omega arith, tt)
+greatest-ge (x ∷ y ∷ l) =
+    let h = greater-ge x (greatestOf (y ∷ l)) in
+    (h .0, all-weaken (λ z. AtMost z (greatestOf (y ∷ l))) (λ z. AtMost z (greater x (greatestOf (y ∷ l)))) (λ z k. omega (arith, k, h .1)) (y ∷ l) (greatest-ge (y ∷ l)))
+
+-- ---- a function over the numbers below n
+
+all-places : (f : ℕ → ℤ) (P : ℤ → Type 0) (n : ℕ) → ((v : ℕ) → v < n → P (f v)) → All P (map f (upTo n))
+all-places f P n h = all-map f (λ v. P (f v)) P (λ v p. p) (upTo n) (all-upTo (λ v. P (f v)) n h)
+
+places-all : (f : ℕ → ℤ) (P : ℤ → Type 0) (n : ℕ) → All P (map f (upTo n)) → (v : ℕ) → v < n → P (f v)
+places-all f P n a = upTo-all (λ v. P (f v)) n (unmap (upTo n) a)
+  where
+    unmap : (l : List ℕ) → All P (map f l) → All (λ v. P (f v)) l
+    unmap [] a = tt
+    unmap (v ∷ l) a = (a .0, unmap l (a .1))
+
+some-places : (f : ℕ → ℤ) (n : ℕ) → 0 < n → Some (map f (upTo n))
+some-places f zero h = absurd (not-suc-le-zero h)
+some-places f (suc n) h = front (upTo n)
+  where
+    front : (l : List ℕ) → Some (map f (l ++ (n ∷ [])))
+    front [] = some
+    front (x ∷ l) = some
+
+-- ---- a table's drawing
+
+module _ (D : ℕ) (t : List ℕ) (accepted : tableNumber t ≡ 0) where
+  few : 0 < nodes t
+  few = accepted-numbers t accepted .some
+
+  -- the root stands at 0
+  pub root-place : place D t 0 ≡ pos 0
+  unfolding drawn
+  root-place = dot-place D t accepted (dot 0 0 (pos 0)) 0 (at-root (treeOf t) (accepted-numbers t accepted .root) (accepted-numbers t accepted .alone))
+    where
+      at-root : (f : Forest) → entry f ≡ 0 → siblings f ≡ nil → OnLevel (dot 0 0 (pos 0)) 0 (dots 0 (pos 0) (draw D f))
+      at-root nil e s = absurd (omega (arith, e))
+      at-root (node v f nil) e s = top (List·Memᴰ·head (ap (λ (w : ℕ). dot 0 w (pos 0)) (sym e)))
+      at-root (node v f (node w g h)) e s = absurd (omega (arith, ap size s))
+
+  -- no node stands further than n - 1 separations right of another
+  pub places-near : (v w : ℕ) → v < nodes t → w < nodes t → AtMost (place D t v) (place D t w +ℤ pos (span D (nodes t)))
+  unfolding drawn
+  places-near v w hv hw =
+      let S = stands-at D t accepted v hv in
+      let R = stands-at D t accepted w hw in
+      subst₂ (λ (x y : ℤ). AtMost x (y +ℤ pos (span D (nodes t)))) (sym (dot-place D t accepted (dot 0 v (S .place)) (S .level) (S .root)))
+      (sym (dot-place D t accepted (dot 0 w (R .place)) (R .level) (R .root)))
+      (subst (λ (k : ℕ). AtMost (S .place) (R .place +ℤ pos (span D k))) (accepted-size t accepted)
+        (narrow-draw D 0 (pos 0) (treeOf t) (dot 0 v (S .place)) (dot 0 w (R .place)) (S .level) (R .level) (S .root) (R .root)))
+
+  pub least-bounds : (v : ℕ) → v < nodes t → leastOf (placesOf D t) ≤ℤ place D t v
+  unfolding placesOf
+  least-bounds v h = parts-le _ _ (places-all (place D t) (λ x. AtMost (leastOf (map (place D t) (upTo (nodes t)))) x) (nodes t) (least-le (map (place D t) (upTo (nodes t)))) v h)
+
+  pub greatest-bounds : (v : ℕ) → v < nodes t → place D t v ≤ℤ greatestOf (placesOf D t)
+  unfolding placesOf
+  greatest-bounds v h = parts-le _ _ (places-all (place D t) (λ x. AtMost x (greatestOf (map (place D t) (upTo (nodes t))))) (nodes t) (greatest-ge (map (place D t) (upTo (nodes t)))) v h)
+
+  pub least-at-most-0 : leastOf (placesOf D t) ≤ℤ pos 0
+  least-at-most-0 = subst (λ (x : ℤ). leastOf (placesOf D t) ≤ℤ x) root-place (least-bounds 0 few)
+
+  pub greatest-at-least-0 : pos 0 ≤ℤ greatestOf (placesOf D t)
+  greatest-at-least-0 = subst (λ (x : ℤ). x ≤ℤ greatestOf (placesOf D t)) root-place (greatest-bounds 0 few)
+
+  -- the whole drawing is at most n - 1 separations wide
+  pub width-bound : greatestOf (placesOf D t) ≤ℤ (leastOf (placesOf D t) +ℤ pos ((nodes t - 1) * D))
+  unfolding placesOf
+  width-bound =
+      subst (λ (w : ℕ). greatestOf (map (place D t) (upTo (nodes t))) ≤ℤ (leastOf (map (place D t) (upTo (nodes t))) +ℤ pos w)) (span-is (nodes t))
+      (parts-le _ _
+        (least-in (λ y. AtMost (greatestOf (map (place D t) (upTo (nodes t)))) (y +ℤ pos (span D (nodes t)))) (map (place D t) (upTo (nodes t))) (some-places (place D t) (nodes t) few)
+          (all-places (place D t) (λ y. AtMost (greatestOf (map (place D t) (upTo (nodes t)))) (y +ℤ pos (span D (nodes t)))) (nodes t)
+            (λ w hw. greatest-in (λ x. AtMost x (place D t w +ℤ pos (span D (nodes t)))) (map (place D t) (upTo (nodes t))) (some-places (place D t) (nodes t) few)
+              (all-places (place D t) (λ x. AtMost x (place D t w +ℤ pos (span D (nodes t)))) (nodes t) (λ v hv. places-near v w hv hw))))))
+    where
+      span-is : (n : ℕ) → span D n ≡ (n - 1) * D
+      span-is zero = omega arith
+      span-is (suc n) = let less : n ≡ suc n - 1 = omega arith in ap (λ (k : ℕ). k * D) less
+
+  -- every place, and every difference of two places, is at most 1,023 * 1,024 in size
+  pub small-difference : D ≤ 1024 → (v w : ℕ) → v < nodes t → w < nodes t → mag (place D t v -ℤ place D t w) ≤ 1047552
+  small-difference hD v w hv hw =
+      mag-parts (place D t v -ℤ place D t w) 1047552
+      (⊎-elim (λ z. omega (arith, z))
+        (λ z. omega (arith, z, wide, places-near v w hv hw, parts-sub (place D t v) (place D t w), parts-add (place D t w) (pos (span D (nodes t)))))
+        (one-part (place D t v -ℤ place D t w)))
+      (⊎-elim (λ z. omega (arith, z, wide, places-near w v hw hv, parts-sub (place D t v) (place D t w), parts-add (place D t v) (pos (span D (nodes t)))))
+        (λ z. omega (arith, z))
+        (one-part (place D t v -ℤ place D t w)))
+    where
+      wide : span D (nodes t) ≤ 1047552
+      wide = bound (nodes t) (accepted-numbers t accepted .few)
+        where
+          bound : (n : ℕ) → n ≤ 1024 → span D n ≤ 1047552
+          bound zero h = omega arith
+          bound (suc n) h = le-trans (mul-le-mul-right D (n-small h)) (mul-le-mul-left 1023 hD)
+            where
+              n-small : suc n ≤ 1024 → n ≤ 1023
+              n-small h = omega arith
+
+  pub small-place : D ≤ 1024 → (v : ℕ) → v < nodes t → mag (place D t v) ≤ 1047552
+  small-place hD v h =
+      subst (λ (z : ℤ). mag z ≤ 1047552) (ap (λ (x : ℤ). place D t v -ℤ x) root-place ∙ less-zero (place D t v)) (small-difference hD v 0 h few)
+    where
+      less-zero : (z : ℤ) → z -ℤ pos 0 ≡ z
+      less-zero z = parts-eq (z -ℤ pos 0) z (omega (arith, parts-sub z (pos 0)))

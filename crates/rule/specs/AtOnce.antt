@@ -1,0 +1,41 @@
+-- The walk once more, as it is told: on each level the new child and the go-betweens are moved at the time, and the contours of the next
+-- level are those of what has been moved. The join that the rule uses moves the go-betweens at the end; the two give one drawing.
+use Prim.Native.Nat.{ℕ, zero, suc, _+_}
+use mathlib.Core.List.{List, [], _∷_}
+use lib.IntN.{ℤ, pos, _+ℤ_}
+use lib.ListN.{length, drop}
+use Rattle.tree.specs.Forest.{Forest, nil, node}
+use Rattle.rule.specs.Drawing.{Drawing, none, at, width, append, Dot, dots, leftContour}
+use Rattle.rule.specs.Join.{Meeting, needed, shortfall, spread, start, alone, rowContour}
+
+-- a row, and the place of the child that is being joined to it
+pub record Joining : Type 0 where
+  pub row : Drawing
+  pub place : ℕ
+
+-- one level, with what is left of the two contours from that level on
+abbrev pub step : ℕ → ℕ → Joining → List Dot → List Dot → Joining
+step separation j s [] ws = s
+step separation j s (a ∷ us) [] = s
+step separation j s (a ∷ us) (b ∷ ws) =
+    let amount = shortfall (needed separation (a .node) (b .node)) (a .place) (b .place) in
+    record { row = spread j (record { child = a .child; amount = amount } ∷ []) 0 (s .row); place = s .place + amount }
+
+-- k levels from level l on
+abbrev pub walkDown : ℕ → ℕ → ℕ → ℕ → ℕ → Drawing → Joining → Joining
+walkDown separation zero l j v below s = s
+walkDown separation (suc k) l j v below s =
+    walkDown separation k (suc l) j v below
+    (step separation j s (drop l (rowContour (s .row))) (drop l (leftContour (dots j (pos 0) (alone v (s .place) below)))))
+
+-- the join, for as many levels as the row's contour has
+abbrev pub joinAtOnce : ℕ → Drawing → ℕ → Drawing → Drawing
+joinAtOnce separation row v below =
+    let s = walkDown separation (length (rowContour row)) 0 (width row) v below (record { row = row; place = start separation row v }) in
+    append (s .row) (alone v (s .place) below)
+
+-- the drawing of a forest by such joins
+abbrev pub drawOntoAtOnce : ℕ → Drawing → Forest → Drawing
+drawOntoAtOnce separation row nil = row
+drawOntoAtOnce separation row (node v below after) =
+    drawOntoAtOnce separation (joinAtOnce separation row v (drawOntoAtOnce separation none below)) after
