@@ -1,0 +1,43 @@
+-- The paper's example: the root with tape 500 and its leaves 501 and 502, D = 3. Its blocks with their check words 65,530 and
+-- 64,030, and what reading its file gives, all by computation. Assumes nothing.
+use mathlib.Core.Path.{_≡_, refl}
+use Prim.Native.Nat.{ℕ, _*_}
+use mathlib.Core.List.{List, [], _∷_, _++_}
+use lib.ListN.{length, replicate}
+use Rattle.sheet.specs.Below.{total, every, joined}
+use Rattle.sheet.specs.Block.{blockBytes, wordAt, bytesOf, blockAt, wordSum, sound, closing, inPlace}
+use Rattle.sheet.specs.Layout.{mostNodes, blocksFor, countWord, usedWords, fixedHold}
+use Rattle.sheet.specs.Read.{refusal}
+use Rattle.sheet.specs.File.{row, content, padded, closed, blockOf, fileOf, ReadBack}
+
+-- first child and next sibling of each node; 65,535 is none
+abbrev pub links : List ℕ
+links = 1 ∷ 65535 ∷ 65535 ∷ 2 ∷ 65535 ∷ 65535 ∷ []
+
+-- the tape numbers, low word and high word
+abbrev pub tapes : List ℕ
+tapes = 500 ∷ 0 ∷ 501 ∷ 0 ∷ 502 ∷ 0 ∷ []
+
+pub header-words : blockOf 3 3 links tapes 0 ≡ 0 ∷ 0 ∷ 3 ∷ 3 ∷ replicate 251 0 ++ 65530 ∷ []
+unfolding total closing countWord content padded closed blockOf
+header-words = refl
+
+pub rows-words : blockOf 3 3 links tapes 1 ≡
+    1 ∷ 3 ∷ 1 ∷ 65535 ∷ 500 ∷ 0 ∷ 65535 ∷ 2 ∷ 501 ∷ 0 ∷ 65535 ∷ 65535 ∷ 502 ∷ 0 ∷ replicate 241 0 ++ 64030 ∷ []
+unfolding total joined closing countWord row content padded closed blockOf
+rows-words = refl
+
+pub file-length : length (fileOf 3 3 links tapes) ≡ 1024
+unfolding total joined bytesOf closing countWord row content padded closed blockOf fileOf
+file-length = refl
+
+pub example-read : ReadBack 3 3 links tapes 6 6
+unfolding total every joined wordAt bytesOf blockAt wordSum sound closing inPlace countWord usedWords fixedHold row content padded closed blockOf fileOf refusal
+example-read = record { number = refl; nodes = refl; separation-back = refl; table-back = refl; tapes-back = refl }
+
+-- 63 nodes take two blocks, 64 take three, 1,024 take eighteen; and the lengths that condition 9 names
+pub block-counts : (blocksFor 63 ≡ 2) × (blocksFor 64 ≡ 3) × (blocksFor 1024 ≡ 18)
+block-counts = (refl, refl, refl)
+
+pub greatest-length : blockBytes * blocksFor mostNodes ≡ 9216
+greatest-length = refl

@@ -1,0 +1,83 @@
+-- The file of a sheet is made of bytes. Assumes nothing.
+use Prim.Native.Nat.{ℕ, zero, suc, _+_, _-_, _*_, _<_}
+use native.Mathlib.Nat.{le-refl}
+use native.Mathlib.Omega.{arith}
+use mathlib.Core.List.{List, [], _∷_, _++_}
+use lib.ListN.{length, replicate}
+use Rattle.sheet.specs.Below.{joined}
+use Rattle.sheet.specs.Block.{wordLimit, closingPlace, bytesOf, closing}
+use Rattle.sheet.specs.Layout.{blockRows, blocksFor, rowsIn, countWord}
+use Rattle.sheet.specs.File.{row, content, padded, closed, blockOf, fileOf, EachBelow, Contents}
+
+module _ (m : ℕ) (positive : 0 < m) where
+  none-below : EachBelow m []
+  none-below i = positive
+
+  one-below : (x : ℕ) (xs : List ℕ) → x < m → EachBelow m xs → EachBelow m (x ∷ xs)
+  one-below x xs h hs zero = h
+  one-below x xs h hs (suc i) = hs i
+
+  append-below : (xs ys : List ℕ) → EachBelow m xs → EachBelow m ys → EachBelow m (xs ++ ys)
+  append-below [] ys hx hy i = hy i
+  append-below (x ∷ xs) ys hx hy zero = hx 0
+  append-below (x ∷ xs) ys hx hy (suc i) = append-below xs ys (λ k. hx (suc k)) hy i
+
+  zeros-below : (n : ℕ) → EachBelow m (replicate n 0)
+  zeros-below zero = none-below
+  zeros-below (suc n) = one-below 0 (replicate n 0) positive (zeros-below n)
+
+  joined-below : (n : ℕ) (f : ℕ → List ℕ) → ((k : ℕ) → k < n → EachBelow m (f k)) → EachBelow m (joined n f)
+  unfolding joined
+  joined-below zero f h = none-below
+  joined-below (suc n) f h = append-below (joined n f) (f n) (joined-below n f (λ k l. h k (further l))) (h n (le-refl (suc n)))
+    where
+      further : {k : ℕ} → k < n → k < suc n
+      further l = omega arith
+
+-- words of 16 bits give bytes
+bytes-below : (words : List ℕ) → EachBelow wordLimit words → EachBelow 256 (bytesOf words)
+unfolding bytesOf
+bytes-below [] h i = omega arith
+bytes-below (w ∷ ws) h zero = omega arith
+bytes-below (w ∷ ws) h (suc zero) = omega (arith, h 0)
+bytes-below (w ∷ ws) h (suc (suc i)) = bytes-below ws (λ k. h (suc k)) i
+
+module _ (n separation : ℕ) (table tapes : List ℕ) (held : Contents n separation table tapes) where
+  row-below : (r : ℕ) → EachBelow wordLimit (row table tapes r)
+  unfolding row
+  row-below r zero = held .table-words (2 * r)
+  row-below r (suc zero) = held .table-words (2 * r + 1)
+  row-below r (suc (suc zero)) = held .tapes-words (2 * r)
+  row-below r (suc (suc (suc zero))) = held .tapes-words (2 * r + 1)
+  row-below r (suc (suc (suc (suc i)))) = omega arith
+
+  content-below : (b : ℕ) → EachBelow wordLimit (content n separation table tapes b)
+  unfolding content
+  content-below zero zero = omega (arith, held .nodes-most)
+  content-below zero (suc zero) = omega (arith, held .separation-most)
+  content-below zero (suc (suc i)) = omega arith
+  content-below (suc b) i = joined-below wordLimit (omega arith) (rowsIn n b) _ (λ k l. row-below (blockRows * b + k)) i
+
+  count-below : (b : ℕ) → countWord n b < wordLimit
+  unfolding countWord
+  count-below zero = omega arith
+  count-below (suc b) = omega arith
+
+  body-below : (b : ℕ) → b < blocksFor n → EachBelow wordLimit (b ∷ countWord n b ∷ content n separation table tapes b)
+  body-below b l zero = omega (arith, held .nodes-most)
+  body-below b l (suc zero) = count-below b
+  body-below b l (suc (suc i)) = content-below b i
+
+  block-below : (b : ℕ) → b < blocksFor n → EachBelow wordLimit (blockOf n separation table tapes b)
+  unfolding blockOf closed padded closing
+  block-below b l =
+      let some : 0 < wordLimit = omega arith in
+      let body : List ℕ = b ∷ countWord n b ∷ content n separation table tapes b in
+      let zeros : List ℕ = replicate (closingPlace - length body) 0 in
+      append-below wordLimit some (body ++ zeros) (closing (body ++ zeros) ∷ [])
+      (append-below wordLimit some body zeros (body-below b l) (zeros-below wordLimit some (closingPlace - length body)))
+      (one-below wordLimit some (closing (body ++ zeros)) [] (omega arith) (none-below wordLimit some))
+
+  pub file-bytes : EachBelow 256 (fileOf n separation table tapes)
+  unfolding fileOf
+  file-bytes = joined-below 256 (omega arith) (blocksFor n) _ (λ b l. bytes-below _ (block-below b l))

@@ -1,0 +1,11 @@
+pub mod Answer
+pub mod Below
+pub mod Blocks
+pub mod Example
+pub mod Fit
+pub mod Fixed
+pub mod Rewritten
+pub mod RoundTrip
+pub mod Walk
+pub mod Words
+pub mod Written

@@ -1,0 +1,131 @@
+-- The other way round: an accepted file of bytes is the file of what is read from it. Assumes nothing.
+use mathlib.Core.Path.{_≡_, refl, sym, ap, ap₂, _∙_}
+use Prim.Native.Nat.{ℕ, zero, suc, _+_, _*_, _/_, _%_, _<_}
+use native.Mathlib.Nat.{le-of-eq, lt-of-lt-of-le, add-zero}
+use native.Mathlib.Omega.{arith}
+use mathlib.Core.List.{List, _∷_}
+use lib.ListN.{length, getD, take, drop, length-take, List·getD-eq-default}
+use lib.Seq.{take-all, getD-take, getD-drop}
+use borrow.Author.Tests.{eqb-true}
+use Rattle.sheet.specs.Below.{joined}
+use Rattle.sheet.specs.Block.{blockWords, blockBytes, blockCount, wordLimit, closingPlace, wordAt, bytesOf, blockAt, sound, inPlace}
+use Rattle.sheet.specs.Layout.{blockRows, rowWords, blocksFor, nodeBlock, nodeWord, rowsIn, countWord, usedWords}
+use Rattle.sheet.specs.Read.{nodesOf, separationOf, nodePair, tableOf, tapesOf, refusal}
+use Rattle.sheet.specs.File.{row, content, blockOf, fileOf, EachBelow}
+use Rattle.sheet.proofs.Answer.{Accepted, accepted}
+use Rattle.sheet.proofs.Below.{split, joined-cong, getD-joined, parts-joined}
+use Rattle.sheet.proofs.Blocks.{length-block}
+use Rattle.sheet.proofs.Fixed.{count-held, unused-held}
+use Rattle.sheet.proofs.Words.{bytes-words, length-closed, getD-closed, closing-unique}
+use Rattle.sheet.proofs.Written.{length-body, used-least, body-fits}
+
+module _ (file : List ℕ) (n : ℕ) where
+  -- the words of node r's row, as they were read
+  first-word : (j r : ℕ) → r < n → getD (joined n (nodePair file j)) (2 * r) 0 ≡ wordAt (blockAt file (nodeBlock r)) (nodeWord r + j)
+  first-word j r l =
+      ap (λ (k : ℕ). getD (joined n (nodePair file j)) k 0) (sym (add-zero (2 * r)))
+      ∙ getD-joined 2 (nodePair file j) (λ k. refl) n r 0 l (omega arith)
+
+  second-word : (j r : ℕ) → r < n → getD (joined n (nodePair file j)) (2 * r + 1) 0 ≡ wordAt (blockAt file (nodeBlock r)) (nodeWord r + (j + 1))
+  second-word j r l =
+      let word : nodeWord r + j + 1 ≡ nodeWord r + (j + 1) = omega arith in
+      getD-joined 2 (nodePair file j) (λ k. refl) n r 1 l (omega arith) ∙ ap (wordAt (blockAt file (nodeBlock r))) word
+
+  row-word : (r j : ℕ) → r < n → j < rowWords
+      → getD (row (tableOf file n) (tapesOf file n) r) j 0 ≡ wordAt (blockAt file (nodeBlock r)) (nodeWord r + j)
+  unfolding row
+  row-word r zero l m = first-word 0 r l
+  row-word r (suc zero) l m = second-word 0 r l
+  row-word r (suc (suc zero)) l m = first-word 2 r l
+  row-word r (suc (suc (suc zero))) l m = second-word 2 r l
+  row-word r (suc (suc (suc (suc j)))) l m = absurd (omega arith)
+
+-- the bytes of a block are bytes of the file
+block-below : (file : List ℕ) (b : ℕ) → EachBelow 256 file → EachBelow 256 (blockAt file b)
+unfolding blockAt
+block-below file b fits i =
+    split blockBytes i
+    (λ l.
+    let past = List·getD-eq-default (take blockBytes (drop (blockBytes * b) file)) 0 {n = i}
+    (omega (arith, length-take blockBytes (drop (blockBytes * b) file)))
+    in
+    omega (arith, past))
+    (λ l.
+    let same = getD-take blockBytes (drop (blockBytes * b) file) i 0 l ∙ getD-drop (blockBytes * b) file i 0 in
+    omega (arith, same, fits (blockBytes * b + i)))
+
+module _ (file : List ℕ) (tableLength tapesLength : ℕ) (held : Accepted file tableLength tapesLength) where
+  abbrev n : ℕ
+  n = nodesOf file
+
+  -- the used words of block b, from what was read
+  abbrev body : ℕ → List ℕ
+  body b = b ∷ countWord n b ∷ content n (separationOf file) (tableOf file n) (tapesOf file n) b
+
+  used-word : (b : ℕ) → b < blocksFor n → (i : ℕ) → suc (suc i) < usedWords n b → getD (body b) (suc (suc i)) 0 ≡ wordAt (blockAt file b) (suc (suc i))
+  unfolding content usedWords row
+  used-word zero l zero m = refl
+  used-word zero l (suc zero) m = refl
+  used-word zero l (suc (suc i)) m = absurd (omega arith)
+  used-word (suc b) l i m =
+      let q : ℕ = i / rowWords in
+      let j : ℕ = i % rowWords in
+      let whole : i ≡ rowWords * q + j = omega arith in
+      let few : q < rowsIn n b = omega arith in
+      let node : blockRows * b + q < n = omega arith in
+      let block : nodeBlock (blockRows * b + q) ≡ suc b = omega arith in
+      let word : nodeWord (blockRows * b + q) + j ≡ suc (suc i) = omega arith in
+      ap (λ (k : ℕ). getD (content n (separationOf file) (tableOf file n) (tapesOf file n) (suc b)) k 0) whole
+      ∙ getD-joined rowWords (λ k. row (tableOf file n) (tapesOf file n) (blockRows * b + k)) (λ k. refl) (rowsIn n b) q j few (omega arith)
+      ∙ row-word file n (blockRows * b + q) j node (omega arith)
+      ∙ ap₂ (λ (c k : ℕ). wordAt (blockAt file c) k) block word
+
+  module _ (fits : EachBelow 256 file) (b : ℕ) (l : b < blocksFor n) where
+    there : b < blockCount file
+    there = omega (arith, held .blocks)
+
+    body-word : (k : ℕ) → k < closingPlace → getD (body b) k 0 ≡ wordAt (blockAt file b) k
+    unfolding inPlace
+    body-word zero m = sym (eqb-true _ _ (held .places b there))
+    body-word (suc zero) m = sym (count-held (countWord n b) (usedWords n b) (blockAt file b) (held .layout b there))
+    body-word (suc (suc i)) m =
+        split (usedWords n b) (suc (suc i))
+        (λ h.
+        List·getD-eq-default (body b) 0 {n = suc (suc i)} (omega (arith, length-body n (separationOf file) (tableOf file n) (tapesOf file n) b))
+        ∙ sym (unused-held (countWord n b) (usedWords n b) (blockAt file b)
+        (used-least n (separationOf file) (tableOf file n) (tapesOf file n) b) (suc (suc i)) h m (held .layout b there)))
+        (λ h. used-word b l i h)
+
+    closing-fits : wordAt (blockAt file b) closingPlace < wordLimit
+    unfolding wordAt
+    closing-fits = omega (arith, block-below file b fits (2 * closingPlace), block-below file b fits (2 * closingPlace + 1))
+
+    block-word : (k : ℕ) → k < blockWords → getD (blockOf n (separationOf file) (tableOf file n) (tapesOf file n) b) k 0 ≡ wordAt (blockAt file b) k
+    unfolding blockOf sound
+    block-word k m =
+        let used = body-fits n (separationOf file) (tableOf file n) (tapesOf file n) b in
+        split closingPlace k
+        (λ h.
+        let last : k ≡ closingPlace = omega arith in
+        rw last (closing-unique (body b) used (blockAt file b) body-word (eqb-true _ _ (held .checks b there)) closing-fits))
+        (λ h. getD-closed (body b) used k h ∙ body-word k h)
+
+    block-again : bytesOf (blockOf n (separationOf file) (tableOf file n) (tapesOf file n) b) ≡ blockAt file b
+    unfolding blockOf
+    block-again =
+        let words : List ℕ = blockOf n (separationOf file) (tableOf file n) (tapesOf file n) b in
+        let size : length words ≡ blockWords = length-closed (body b) (body-fits n (separationOf file) (tableOf file n) (tapesOf file n) b) in
+        let whole : length (blockAt file b) ≡ blockBytes = length-block file b (omega (arith, held .blocks)) in
+        bytes-words words (blockAt file b) (omega arith) (block-below file b fits) (λ k m. block-word k (lt-of-lt-of-le m (le-of-eq size)))
+
+  rewritten : EachBelow 256 file → fileOf n (separationOf file) (tableOf file n) (tapesOf file n) ≡ file
+  unfolding fileOf blockAt
+  rewritten fits =
+      joined-cong (blocksFor n) _ (blockAt file) (λ b l. block-again fits b l)
+      ∙ parts-joined blockBytes (blocksFor n) file
+      ∙ take-all (blockBytes * blocksFor n) file (le-of-eq (held .blocks))
+
+-- what is read from an accepted file, written again, is that file
+pub read-and-written : (file : List ℕ) (tableLength tapesLength : ℕ) → EachBelow 256 file → refusal file tableLength tapesLength ≡ 0
+    → fileOf (nodesOf file) (separationOf file) (tableOf file (nodesOf file)) (tapesOf file (nodesOf file)) ≡ file
+read-and-written file t s fits e = rewritten file t s (accepted file t s e) fits

@@ -1,0 +1,102 @@
+-- The blocks of a sheet's file, as the reader sees them: sound, in their places, laid out right, with every row where the layout
+-- has it. Assumes nothing.
+use mathlib.Core.Path.{_≡_, refl, ap, ap₂, _∙_}
+use Prim.Native.Nat.{ℕ, zero, suc, _+_, _*_, _/_, _%_, _≤_, _<_}
+use native.Mathlib.Omega.{arith}
+use mathlib.Core.Bool.{true}
+use mathlib.Core.List.{List, [], _∷_}
+use lib.ListN.{length, getD, List·getD-eq-default}
+use borrow.Author.Tests.{eq-eqb}
+use Rattle.sheet.specs.Block.{blockBytes, closingPlace, wordAt, bytesOf, blockAt, sound, inPlace}
+use Rattle.sheet.specs.Layout.{blockRows, rowWords, blocksFor, nodeBlock, nodeWord, rowsIn, countWord, usedWords, fixedHold, laidOut}
+use Rattle.sheet.specs.Read.{nodePair}
+use Rattle.sheet.specs.File.{row, content, blockOf, fileOf}
+use Rattle.sheet.proofs.Below.{split, every-holds, length-joined, joined-at, getD-joined}
+use Rattle.sheet.proofs.Fixed.{used-agrees, unused}
+use Rattle.sheet.proofs.Words.{length-bytes, word-bytes, length-closed, getD-closed, closed-sound}
+
+module _ (n separation : ℕ) (table tapes : List ℕ) where
+  -- the used words of block b
+  abbrev body : ℕ → List ℕ
+  body b = b ∷ countWord n b ∷ content n separation table tapes b
+
+  abbrev file : List ℕ
+  file = fileOf n separation table tapes
+
+  pub length-body : (b : ℕ) → length (body b) ≡ usedWords n b
+  unfolding content usedWords row
+  length-body zero = refl
+  length-body (suc b) =
+      omega (arith, length-joined rowWords (λ i. row table tapes (blockRows * b + i)) (λ k. refl) (rowsIn n b))
+
+  used-fits : (b : ℕ) → usedWords n b ≤ closingPlace
+  unfolding usedWords
+  used-fits zero = omega arith
+  used-fits (suc b) = omega arith
+
+  pub used-least : (b : ℕ) → 1 < usedWords n b
+  unfolding usedWords
+  used-least zero = omega arith
+  used-least (suc b) = omega arith
+
+  pub body-fits : (b : ℕ) → length (body b) ≤ closingPlace
+  body-fits b = omega (arith, length-body b, used-fits b)
+
+  pub block-size : (b : ℕ) → length (bytesOf (blockOf n separation table tapes b)) ≡ blockBytes
+  unfolding blockOf
+  block-size b = omega (arith, length-bytes (blockOf n separation table tapes b), length-closed (body b) (body-fits b))
+
+  pub length-file : length file ≡ blockBytes * blocksFor n
+  unfolding fileOf
+  length-file = length-joined blockBytes (λ b. bytesOf (blockOf n separation table tapes b)) block-size (blocksFor n)
+
+  module _ (b : ℕ) (l : b < blocksFor n) where
+    block-read : blockAt file b ≡ bytesOf (blockOf n separation table tapes b)
+    unfolding blockAt fileOf
+    block-read = joined-at blockBytes (λ b. bytesOf (blockOf n separation table tapes b)) block-size (blocksFor n) b l
+
+    -- word k of block b, before the closing word
+    pub word-read : (k : ℕ) → k < closingPlace → wordAt (blockAt file b) k ≡ getD (body b) k 0
+    unfolding blockOf
+    word-read k m = rw block-read (word-bytes (blockOf n separation table tapes b) k ∙ getD-closed (body b) (body-fits b) k m)
+
+    pub check-read : sound (blockAt file b) ≡ true
+    unfolding blockOf sound
+    check-read = rw block-read (eq-eqb _ _ (closed-sound (body b) (body-fits b)))
+
+    pub place-read : inPlace b (blockAt file b) ≡ true
+    unfolding inPlace
+    place-read = eq-eqb _ _ (word-read 0 (omega arith))
+
+    pub laid-read : laidOut n b (blockAt file b) ≡ true
+    unfolding fixedHold
+    laid-read =
+        every-holds closingPlace _
+        (λ k m.
+        split (usedWords n b) k
+        (λ h.
+        unused (countWord n b) (usedWords n b) (blockAt file b) k (used-least b) h
+        ∙ eq-eqb _ _ (word-read k m ∙ List·getD-eq-default (body b) 0 {n = k} (omega (arith, length-body b))))
+        (λ h. used-agrees (countWord n b) (usedWords n b) (blockAt file b) k h (word-read 1 (omega arith))))
+
+  -- word j of node r's row
+  module _ (r j : ℕ) (node : r < n) (field : j < rowWords) where
+    row-read : (word : ℕ) → word ≡ nodeWord r + j → wordAt (blockAt file (nodeBlock r)) word ≡ getD (row table tapes r) j 0
+    unfolding content row
+    row-read word e =
+        let b : ℕ = r / blockRows in
+        let block : nodeBlock r ≡ suc b = omega arith in
+        let place : word ≡ suc (suc (rowWords * (r % blockRows) + j)) = omega arith in
+        let whole : blockRows * b + r % blockRows ≡ r = omega arith in
+        rw (block, place)
+        (word-read (suc b) (omega arith) (suc (suc (rowWords * (r % blockRows) + j))) (omega arith)
+        ∙ getD-joined rowWords (λ i. row table tapes (blockRows * b + i)) (λ k. refl) (rowsIn n b) (r % blockRows) j (omega arith) field
+        ∙ ap (λ (node : ℕ). getD (row table tapes node) j 0) whole)
+
+  pub links-read : (r : ℕ) → r < n → nodePair file 0 r ≡ getD table (2 * r) 0 ∷ getD table (2 * r + 1) 0 ∷ []
+  unfolding row
+  links-read r node = ap₂ (λ (x y : ℕ). x ∷ y ∷ []) (row-read r 0 node (omega arith) _ refl) (row-read r 1 node (omega arith) _ (omega arith))
+
+  pub tape-read : (r : ℕ) → r < n → nodePair file 2 r ≡ getD tapes (2 * r) 0 ∷ getD tapes (2 * r + 1) 0 ∷ []
+  unfolding row
+  tape-read r node = ap₂ (λ (x y : ℕ). x ∷ y ∷ []) (row-read r 2 node (omega arith) _ refl) (row-read r 3 node (omega arith) _ (omega arith))

@@ -1,0 +1,55 @@
+-- A file as blocks of words: 256 words of 16 bits to a block, the low byte first. A block's check is that its words add up
+-- to zero modulo 65,536; the last word, the closing word, serves for that. Word 0 is the block's place.
+use Prim.Native.Nat.{ℕ, _+_, _-_, _*_, _/_, _%_}
+use mathlib.Core.Bool.{Bool}
+use mathlib.Core.List.{List, [], _∷_}
+use lib.Dec.{eqb}
+use lib.ListN.{length, getD, take, drop}
+use Rattle.sheet.specs.Below.{total}
+
+abbrev pub blockWords : ℕ
+blockWords = 256
+
+abbrev pub blockBytes : ℕ
+blockBytes = 512
+
+-- words wrap at this number
+abbrev pub wordLimit : ℕ
+wordLimit = 65536
+
+-- the place of the closing word
+abbrev pub closingPlace : ℕ
+closingPlace = 255
+
+-- how many blocks a file has
+abbrev pub blockCount : List ℕ → ℕ
+blockCount file = length file / blockBytes
+
+-- the bytes of block b of a file, counted from 0
+unfoldable pub blockAt : List ℕ → ℕ → List ℕ
+blockAt file b = take blockBytes (drop (blockBytes * b) file)
+
+-- word k of a block's bytes
+unfoldable pub wordAt : List ℕ → ℕ → ℕ
+wordAt block k = getD block (2 * k) 0 + 256 * getD block (2 * k + 1) 0
+
+-- the bytes of words in order
+unfoldable pub bytesOf : List ℕ → List ℕ
+bytesOf [] = []
+bytesOf (w ∷ ws) = w % 256 ∷ w / 256 ∷ bytesOf ws
+
+-- the sum of a block's words, modulo 65,536
+unfoldable pub wordSum : List ℕ → ℕ
+wordSum block = total blockWords (wordAt block) % wordLimit
+
+-- a block's check
+unfoldable pub sound : List ℕ → Bool
+sound block = eqb (wordSum block) 0
+
+-- the word that closes the sum over the words before it
+unfoldable pub closing : List ℕ → ℕ
+closing words = (wordLimit - total closingPlace (λ k. getD words k 0) % wordLimit) % wordLimit
+
+-- a block's first word is its place
+unfoldable pub inPlace : ℕ → List ℕ → Bool
+inPlace b block = eqb (wordAt block 0) b

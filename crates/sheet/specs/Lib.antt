@@ -1,0 +1,7 @@
+-- The sheet file (blocks, layout), what reading one gives, the file of a sheet, and what the reader's inner steps promise.
+pub mod Below
+pub mod Block
+pub mod Layout
+pub mod Read
+pub mod File
+pub mod Steps

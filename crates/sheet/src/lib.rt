@@ -1,0 +1,44 @@
+// The reader of sheet files. The bytes are judged by the conditions 9, 10, 11, 12 and 7; then the rows are read into a table
+// slice and a tape slice.
+ghost use Rattle.sheet.specs.Read.{SheetRead};
+
+mod block;
+mod conditions;
+mod header;
+mod layout;
+mod rows;
+
+use conditions::refusal_of;
+use header::nodes_of;
+use header::separation_of;
+use rows::read_rows;
+
+// What reading a sheet gives: 0 with n and D, or the number of a refusal with 0 and 0.
+pub struct Sheet {
+    pub number: u16,
+    pub nodes: u16,
+    pub separation: u16,
+}
+
+// Reads a sheet. Where it is accepted, each node's first child and next sibling stand in `table`, and its tape number, low word
+// and high word, in `tapes`; entries past 2n are untouched. A refusal changes neither slice. The tree is not judged.
+pub fn read_sheet(file: &[u8], table: &mut [u16], tapes: &mut [u16]) -> Sheet
+    ensures { λ r. ⌜ SheetRead (now (file .entry)) (now (table .entry)) (now (tapes .entry)) r (now (table .exit)) (now (tapes .exit)) ⌝ }
+{
+    let number = refusal_of(file, table.len(), tapes.len());
+    if number != 0 {
+        return Sheet {
+            number,
+            nodes: 0,
+            separation: 0,
+        };
+    }
+    let nodes = nodes_of(file);
+    let separation = separation_of(file);
+    read_rows(file, nodes as usize, table, tapes);
+    Sheet {
+        number: 0,
+        nodes,
+        separation,
+    }
+}
