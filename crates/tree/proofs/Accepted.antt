@@ -1,24 +1,22 @@
 -- What it means for a table that conditions do not hold: the tests said of every entry and every node, and the tree of an accepted table.
 -- Assumes nothing.
-use mathlib.Core.Path.{_≡_, refl, sym, ap, ap₂, _∙_, subst}
-use mathlib.Core.Logic.{_⊎_, inl, inr, ⊎-elim}
+use mathlib.Core.Path.{_≡_, refl, sym, ap, _∙_}
+use mathlib.Core.Logic.{inl, inr, ⊎-elim}
 use mathlib.Core.Bool.{Bool, true, false, _||_, _&&_, not}
-use mathlib.Core.List.{List, [], _∷_, _++_}
-use Prim.Native.Nat.{ℕ, zero, suc, _+_, _*_, _%_, _≤_, _<_}
+use mathlib.Core.List.{List, [], _∷_}
+use Prim.Native.Nat.{ℕ, _+_, _*_, _%_, _≤_, _<_}
 use native.Mathlib.Omega.{arith}
 use lib.Dec.{eqb, ltb}
-use lib.ListN.{length, getD}
-use borrow.Author.Tests.{eqb-true, eqb-false, ltb-true, ltb-false, le-ltb, lt-ltb, eq-eqb, ne-eqb, not-true, not-false}
-use Rattle.refusal.specs.First.{first}
-use Rattle.refusal.proofs.Laws.{NoneHolds, first-none, none-first}
+use lib.ListN.{length}
+use borrow.Author.Tests.{eqb-true, eqb-false, ltb-true, ltb-false, le-ltb, lt-ltb, eq-eqb, ne-eqb, not-false}
 use Rattle.tree.specs.Numbers.{is, count, any, member, upTo}
-use Rattle.tree.specs.Table.{none, nodes, firstChild, nextSibling}
-use Rattle.tree.specs.Forest.{Forest, nil, node, forestFrom, forest, treeOf, size, preorder, entry}
-use Rattle.tree.specs.WellFormed.{badLength, badEntry, rootHasSibling, namedTwice, notReached, tableConditions, tableNumber, Passed}
-use Rattle.tree.proofs.Counting.{is-same, is-other, is-cases, below-or-not, All, Below, Distinct, distinct-lacking, covering-length}
-use Rattle.tree.proofs.Tests.{true-false, true-or-false, or-false-left, or-false-right, or-false, any-false, all-any, all-at, at-all, upTo-all, all-upTo, member-count, member-none}
-use Rattle.tree.proofs.Reading.{Agrees, size-preorder}
-use Rattle.tree.proofs.Linked.{Names, Linked, tree-below, tree-distinct, tree-size, tree-agrees, tree-entry}
+use Rattle.tree.specs.Table.{none, nodes, nextSibling}
+use Rattle.tree.specs.Forest.{treeOf, size, preorder}
+use Rattle.tree.specs.WellFormed.{badLength, badEntry, rootHasSibling, namedTwice, notReached, Passed}
+use Rattle.tree.proofs.Counting.{is-same, is-cases, All, distinct-lacking, covering-length}
+use Rattle.tree.proofs.Tests.{true-false, true-or-false, or-false-left, or-false-right, or-false, any-false, all-any, all-at, upTo-all, all-upTo, member-count, member-none}
+use Rattle.tree.proofs.Reading.{size-preorder}
+use Rattle.tree.proofs.Linked.{Names, Linked, tree-below, tree-distinct, tree-size}
 
 -- ---- condition 1
 
@@ -117,7 +115,7 @@ linked t p =
       child = λ v h. all-at (Names (nodes t)) t none a (2 * v) (omega arith);
       sibling = λ v h. all-at (Names (nodes t)) t none a (2 * v + 1) (omega arith);
       alone = root-alone t (p .root);
-      once = named-once t (p .named)
+      once = named-once t (p .named);
     }
 
 -- ---- condition 5
@@ -138,8 +136,12 @@ size-reached t L e =
     each : (v : ℕ) → v < nodes t → not (member v (preorder (treeOf t))) ≡ false
     each v h =
         ⊎-elim (λ m. ap not m)
-        (λ m. absurd (omega (arith, e, size-preorder (treeOf t)
-            , distinct-lacking (nodes t) (preorder (treeOf t)) (tree-below t L) (tree-distinct t L) v h (member-none v (preorder (treeOf t)) m))))
+        (λ m. absurd (omega (
+          arith,
+          e,
+          size-preorder (treeOf t),
+          distinct-lacking (nodes t) (preorder (treeOf t)) (tree-below t L) (tree-distinct t L) v h (member-none v (preorder (treeOf t)) m),
+        )))
         (true-or-false (member v (preorder (treeOf t))))
 
 pub reached-size : (t : List ℕ) → Linked t → notReached t ≡ false → size (treeOf t) ≡ nodes t

@@ -1,10 +1,10 @@
 -- Counting: sums over the numbers below a bound, how often a number occurs in a list, and what follows for lists without repetition.
 -- Assumes nothing.
-use mathlib.Core.Path.{_≡_, refl, sym, ap, ap₂, _∙_, subst}
+use mathlib.Core.Path.{_≡_, refl, sym, ap, ap₂, _∙_}
 use mathlib.Core.Logic.{_⊎_, inl, inr, ⊎-elim}
 use mathlib.Core.Bool.{Bool, true, false, cond}
 use mathlib.Core.List.{List, [], _∷_, _++_}
-use Prim.Native.Nat.{ℕ, zero, suc, _+_, _-_, _*_, _≤_, _<_}
+use Prim.Native.Nat.{ℕ, zero, suc, _+_, _*_, _≤_, _<_}
 use native.Mathlib.Nat.{not-suc-le-zero}
 use native.Mathlib.Omega.{arith}
 use lib.Dec.{eqb, ltb}
@@ -148,8 +148,14 @@ covering-length n l h = omega (arith, counts-length n l, sumBelow-mono n (λ x. 
 -- a list without repetition that lacks a number below n is shorter than n
 pub distinct-lacking : (n : ℕ) (l : List ℕ) → Below n l → Distinct n l → (a : ℕ) → a < n → count a l ≡ 0 → length l < n
 distinct-lacking n l b d a h e =
-    omega (arith, length-counts n l b, sumBelow-add n (λ x. is x a) (λ x. count x l), sumBelow-once n a h, sumBelow-one n
-    , sumBelow-mono n (λ x. is x a + count x l) (λ x. 1) both)
+    omega (
+      arith,
+      length-counts n l b,
+      sumBelow-add n (λ x. is x a) (λ x. count x l),
+      sumBelow-once n a h,
+      sumBelow-one n,
+      sumBelow-mono n (λ x. is x a + count x l) (λ x. 1) both,
+    )
   where
     both : (x : ℕ) → x < n → is x a + count x l ≤ 1
     both x k = ⊎-elim (λ s. omega (arith, s .1, ap (λ (y : ℕ). count y l) (s .0))) (λ s. omega (arith, s .1, d x k)) (is-cases x a)

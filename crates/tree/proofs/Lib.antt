@@ -1,15 +1,25 @@
--- Proofs about tree tables.
+-- Proofs about tree tables: lists and counting, the tree of a table, what the operations give, and the loops of the code in lists.
 pub mod Counting
 pub mod Tests
+pub mod Places
+pub mod Copied
 pub mod Reading
 pub mod Linked
 pub mod Accepted
 pub mod Parts
+pub mod Reached
 pub mod Stands
+pub mod Followed
 pub mod TableOf
+pub mod Number
+pub mod Cases
+pub mod Walked
+pub mod LevelOf
 pub mod Mirrored
 pub mod Renumbered
-pub mod Walked
+pub mod Answers
 pub mod Scan
 pub mod Visit
-pub mod Number
+pub mod LastChild
+pub mod Turned
+pub mod Links

@@ -2,8 +2,8 @@
 -- table, and has no node twice. Assumes nothing.
 use mathlib.Core.Path.{_≡_, refl, sym, ap, ap₂, _∙_, subst}
 use mathlib.Core.Logic.{_⊎_, inl, inr, ⊎-elim}
-use mathlib.Core.Bool.{Bool, true, false}
-use mathlib.Core.List.{List, [], _∷_, _++_}
+use mathlib.Core.Bool.{true}
+use mathlib.Core.List.{List}
 use Prim.Native.Nat.{ℕ, zero, suc, _+_, _*_, _≤_, _<_}
 use native.Mathlib.Nat.{not-suc-le-zero, mul-le-mul-right}
 use native.Mathlib.Omega.{arith}
@@ -13,7 +13,7 @@ use borrow.Author.Tests.{lt-ltb, le-ltb}
 use Rattle.tree.specs.Numbers.{is, count}
 use Rattle.tree.specs.Table.{none, nodes, firstChild, nextSibling}
 use Rattle.tree.specs.Forest.{Forest, nil, node, forestFrom, forest, treeOf, size, preorder, entry, children, siblings}
-use Rattle.tree.proofs.Counting.{below-or-not, All, all-append, all-left, all-right, Below, sumBelow, sumBelow-mono, sumOver, sumOver-counts, Distinct, distinct-length}
+use Rattle.tree.proofs.Counting.{all-left, all-right, Below, sumBelow-mono, sumOver, sumOver-counts, Distinct, distinct-length}
 use Rattle.tree.proofs.Reading.{Agrees, names, named-by-rows, from-node, from-nil, from-below, one-further, whole-or-long, size-preorder}
 
 -- the entry names a node of the n, or none
@@ -43,16 +43,20 @@ read-back t few (node v f g) a b zero h = absurd (not-suc-le-zero h)
 read-back t few (node v f g) a b (suc k) h =
     from-node t k v (lt-ltb v (nodes t) (b .0))
     ∙ ap₂ (node v)
-      (ap (forestFrom k t) (a .0) ∙ read-back t few f (a .2) (all-left (λ x. x < nodes t) (preorder f) (preorder g) (b .1)) k (omega arith))
-      (ap (forestFrom k t) (a .1) ∙ read-back t few g (a .3) (all-right (λ x. x < nodes t) (preorder f) (preorder g) (b .1)) k (omega arith))
+    (ap (forestFrom k t) (a .0) ∙ read-back t few f (a .2) (all-left (λ x. x < nodes t) (preorder f) (preorder g) (b .1)) k (omega arith))
+    (ap (forestFrom k t) (a .1) ∙ read-back t few g (a .3) (all-right (λ x. x < nodes t) (preorder f) (preorder g) (b .1)) k (omega arith))
 
 module _ (t : List ℕ) (L : Linked t) where
   -- ---- no node is met twice
 
   few-names : (w : ℕ) → (l : List ℕ) → Below (nodes t) l → Distinct (nodes t) l → sumOver (names t w) l ≤ count w t
   few-names w l b d =
-      omega (arith, sumOver-counts (names t w) (nodes t) l b, named-by-rows t (L .even) w
-      , sumBelow-mono (nodes t) (λ x. count x l * names t w x) (names t w) each)
+      omega (
+        arith,
+        sumOver-counts (names t w) (nodes t) l b,
+        named-by-rows t (L .even) w,
+        sumBelow-mono (nodes t) (λ x. count x l * names t w x) (names t w) each,
+      )
     where
       each : (x : ℕ) → x < nodes t → count x l * names t w x ≤ names t w x
       each x h = omega (arith, mul-le-mul-right (names t w x) (d x h))
@@ -60,15 +64,22 @@ module _ (t : List ℕ) (L : Linked t) where
   pub distinct-from : (k : ℕ) → Distinct (nodes t) (preorder (forestFrom k t 0))
   distinct-from zero w h = omega arith
   distinct-from (suc k) w h =
-      omega (arith, one-further t w h k 0, L .once w h
-      , few-names w (preorder (forestFrom k t 0)) (from-below t k 0) (distinct-from k))
+      omega (
+        arith,
+        one-further t w h k 0,
+        L .once w h,
+        few-names w (preorder (forestFrom k t 0)) (from-below t k 0) (distinct-from k),
+      )
 
   -- ---- the tree is whole
 
   pub size-from : (k : ℕ) → size (forestFrom k t 0) ≤ nodes t
   size-from k =
-      omega (arith, size-preorder (forestFrom k t 0)
-      , distinct-length (nodes t) (preorder (forestFrom k t 0)) (from-below t k 0) (distinct-from k))
+      omega (
+        arith,
+        size-preorder (forestFrom k t 0),
+        distinct-length (nodes t) (preorder (forestFrom k t 0)) (from-below t k 0) (distinct-from k),
+      )
 
   whole : forestFrom (suc (nodes t)) t 0 ≡ forestFrom (nodes t) t 0
   whole = ⊎-elim (λ e. e) (λ h. absurd (omega (arith, size-from (suc (nodes t))))) (whole-or-long t (nodes t) 0)

@@ -1,18 +1,25 @@
--- The number of a table from the conditions, one by one. Assumes nothing.
-use mathlib.Core.Path.{_≡_, refl, sym, ap, _∙_}
-use mathlib.Core.Logic.{_⊎_, inl, inr, ⊎-elim}
-use mathlib.Core.Bool.{Bool, true, false, _||_}
+-- The number of a table: 0 exactly when no condition holds, and else that of the first that does. Assumes nothing.
+use mathlib.Core.Path.{_≡_, refl}
+use mathlib.Core.Logic.{_↔_, _⊎_, inl, inr, ⊎-elim}
+use mathlib.Core.Bool.{true, false}
 use mathlib.Core.List.{List}
 use Rattle.tree.specs.Operations.{unlessRefused}
 use Prim.Native.Nat.{ℕ, zero, suc, _%_, _<_, _≤_}
 use native.Mathlib.Omega.{arith}
 use lib.ListN.{length}
-use Rattle.refusal.specs.First.{first}
+use Rattle.refusal.proofs.Laws.{NoneHolds, first-none, none-first}
 use Rattle.tree.specs.Table.{nodes}
 use Rattle.tree.specs.Forest.{treeOf, size}
 use Rattle.tree.specs.WellFormed.{badLength, badEntry, rootHasSibling, namedTwice, notReached, tableConditions, tableNumber, Passed}
 use Rattle.tree.proofs.Tests.{true-or-false}
 use Rattle.tree.proofs.Accepted.{linked, good-length, reached-size, size-reached}
+
+-- accepted exactly when no condition holds
+pub accepted : (t : List ℕ) → tableNumber t ≡ 0 ↔ NoneHolds (tableConditions t)
+unfolding tableNumber tableConditions
+accepted t = (first-none (tableConditions t) (omega arith), none-first (tableConditions t))
+
+-- ---- one by one
 
 pub length-bad : (t : List ℕ) → (length t % 2 ≡ 1) ⊎ ((length t ≡ 0) ⊎ (2048 < length t)) → badLength t ≡ true
 length-bad t h = ⊎-elim (λ e. e) (λ e. absurd (no (good-length t e) h)) (true-or-false (badLength t))

@@ -1,14 +1,13 @@
 -- Parts of a forest: each node heads one, and what holds of the whole holds of the part. Assumes nothing.
 use mathlib.Core.Path.{_≡_, refl, sym, ap, _∙_, subst}
 use mathlib.Core.Logic.{_⊎_, inl, inr, ⊎-elim}
-use mathlib.Core.Bool.{Bool, true, false, cond}
-use mathlib.Core.List.{List, [], _∷_, _++_}
-use Prim.Native.Nat.{ℕ, zero, suc, _+_, _≤_, _<_}
+use mathlib.Core.Bool.{Bool, cond}
+use mathlib.Core.List.{List}
+use Prim.Native.Nat.{ℕ, zero, suc, _≤_, _<_}
 use native.Mathlib.Nat.{not-suc-le-zero}
 use native.Mathlib.Omega.{arith}
-use lib.Dec.{eqb}
 use borrow.Author.Tests.{eq-eqb, ne-eqb}
-use Rattle.tree.specs.Numbers.{is, count}
+use Rattle.tree.specs.Numbers.{count}
 use Rattle.tree.specs.Forest.{Forest, nil, node, size, preorder, startingAt, orElse}
 use Rattle.tree.proofs.Counting.{is-same, is-cases, count-append, Below, all-left, all-right}
 use Rattle.tree.proofs.Reading.{Agrees}
@@ -25,9 +24,9 @@ locate nil v c = absurd (not-suc-le-zero c)
 locate (node u a b) v c =
     ⊎-elim (λ s. (a, b, subst (λ (x : ℕ). Part (node x a b) (node u a b)) (sym (s .0)) whole))
     (λ s.
-        ⊎-elim (λ n. let r = locate b v (omega (arith, n, s .1, count-append v (preorder a) (preorder b))) in (r .0, r .1, in-siblings (r .2)))
-        (λ n. let r = locate a v n in (r .0, r .1, in-children (r .2)))
-        (none-or-some (count v (preorder a))))
+    ⊎-elim (λ n. let r = locate b v (omega (arith, n, s .1, count-append v (preorder a) (preorder b))) in (r .0, r .1, in-siblings (r .2)))
+    (λ n. let r = locate a v n in (r .0, r .1, in-children (r .2)))
+    (none-or-some (count v (preorder a))))
     (is-cases v u)
   where
     none-or-some : (n : ℕ) → (n ≡ 0) ⊎ (1 ≤ n)
@@ -66,9 +65,9 @@ starting-none v nil c = refl
 starting-none v (node u a b) c =
     ⊎-elim (λ s. absurd (omega (arith, c, s .1)))
     (λ s.
-        ap (λ (x : Bool). cond x (node u a b) (orElse (startingAt v a) (startingAt v b))) (ne-eqb v u (s .0))
-        ∙ ap (λ (x : Forest). orElse x (startingAt v b)) (starting-none v a (omega (arith, c, count-append v (preorder a) (preorder b))))
-        ∙ starting-none v b (omega (arith, c, count-append v (preorder a) (preorder b))))
+    ap (λ (x : Bool). cond x (node u a b) (orElse (startingAt v a) (startingAt v b))) (ne-eqb v u (s .0))
+    ∙ ap (λ (x : Forest). orElse x (startingAt v b)) (starting-none v a (omega (arith, c, count-append v (preorder a) (preorder b))))
+    ∙ starting-none v b (omega (arith, c, count-append v (preorder a) (preorder b))))
     (is-cases v u)
 
 -- where v occurs once, there is one part that it heads
@@ -77,14 +76,14 @@ starting-part v g h whole c = ap (λ (x : Bool). cond x (node v g h) (orElse (st
 starting-part v g h (in-children {v = u} {f = a} {h = b} p) c =
     ⊎-elim (λ s. absurd (omega (arith, c, s .1, count-append v (preorder a) (preorder b), part-count v p, is-same v v refl)))
     (λ s.
-        ap (λ (x : Bool). cond x (node u a b) (orElse (startingAt v a) (startingAt v b))) (ne-eqb v u (s .0))
-        ∙ ap (λ (x : Forest). orElse x (startingAt v b)) (starting-part v g h p (omega (arith, c, count-append v (preorder a) (preorder b)))))
+    ap (λ (x : Bool). cond x (node u a b) (orElse (startingAt v a) (startingAt v b))) (ne-eqb v u (s .0))
+    ∙ ap (λ (x : Forest). orElse x (startingAt v b)) (starting-part v g h p (omega (arith, c, count-append v (preorder a) (preorder b)))))
     (is-cases v u)
 starting-part v g h (in-siblings {v = u} {f = a} {h = b} p) c =
     ⊎-elim (λ s. absurd (omega (arith, c, s .1, count-append v (preorder a) (preorder b), part-count v p, is-same v v refl)))
     (λ s.
-        ap (λ (x : Bool). cond x (node u a b) (orElse (startingAt v a) (startingAt v b))) (ne-eqb v u (s .0))
-        ∙ ap (λ (x : Forest). orElse x (startingAt v b))
-          (starting-none v a (omega (arith, c, count-append v (preorder a) (preorder b), part-count v p, is-same v v refl)))
-        ∙ starting-part v g h p (omega (arith, c, count-append v (preorder a) (preorder b))))
+    ap (λ (x : Bool). cond x (node u a b) (orElse (startingAt v a) (startingAt v b))) (ne-eqb v u (s .0))
+    ∙ ap (λ (x : Forest). orElse x (startingAt v b))
+    (starting-none v a (omega (arith, c, count-append v (preorder a) (preorder b), part-count v p, is-same v v refl)))
+    ∙ starting-part v g h p (omega (arith, c, count-append v (preorder a) (preorder b))))
     (is-cases v u)

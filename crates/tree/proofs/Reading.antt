@@ -3,16 +3,15 @@
 use mathlib.Core.Path.{_≡_, refl, sym, ap, ap₂, _∙_, subst}
 use mathlib.Core.Logic.{_⊎_, inl, inr, ⊎-elim}
 use mathlib.Core.Bool.{Bool, true, false}
-use mathlib.Core.List.{List, [], _∷_, _++_}
+use mathlib.Core.List.{List, [], _∷_}
 use Prim.Native.Nat.{ℕ, zero, suc, _+_, _*_, _≤_, _<_}
-use native.Mathlib.Nat.{not-suc-le-zero, mul-suc, mul-le-mul-right}
 use native.Mathlib.Omega.{arith}
 use lib.Dec.{ltb}
 use lib.ListN.{length, getD, length-append}
 use Rattle.tree.specs.Numbers.{is, count}
 use Rattle.tree.specs.Table.{none, nodes, firstChild, nextSibling}
-use Rattle.tree.specs.Forest.{Forest, nil, node, forestFrom, forest, treeOf, size, preorder, entry}
-use Rattle.tree.proofs.Counting.{is-cases, is-other, below-or-not, count-append, All, all-append, Below, sumBelow, sumBelow-add, sumBelow-mono, sumBelow-cong, sumOver, sumOver-append, sumOver-counts, Distinct, distinct-length}
+use Rattle.tree.specs.Forest.{Forest, nil, node, forestFrom, size, preorder, entry}
+use Rattle.tree.proofs.Counting.{is-other, below-or-not, count-append, all-append, Below, sumBelow, sumOver, sumOver-append}
 
 -- ---- forests
 
@@ -44,6 +43,7 @@ sumBelow-pairs (suc n) f =
   where
     double : (n : ℕ) → 2 * suc n ≡ suc (suc (2 * n))
     double n = omega arith
+
     one : (n : ℕ) → suc (2 * n) ≡ 2 * n + 1
     one n = omega arith
 
@@ -70,9 +70,11 @@ module _ (t : List ℕ) where
   pub from-below : (k v : ℕ) → Below (nodes t) (preorder (forestFrom k t v))
   from-below zero v = tt
   from-below (suc k) v =
-      ⊎-elim (λ h. subst (λ (f : Forest). Below (nodes t) (preorder f)) (sym (from-node k v (h .1)))
-          (h .0, all-append (λ x. x < nodes t) (preorder (forestFrom k t (firstChild t v))) (preorder (forestFrom k t (nextSibling t v)))
-          (from-below k (firstChild t v)) (from-below k (nextSibling t v))))
+      ⊎-elim (λ h. subst (λ (f : Forest). Below (nodes t) (preorder f)) (sym (from-node k v (h .1))) (
+        h .0,
+        all-append (λ x. x < nodes t) (preorder (forestFrom k t (firstChild t v))) (preorder (forestFrom k t (nextSibling t v)))
+            (from-below k (firstChild t v)) (from-below k (nextSibling t v)),
+      ))
       (λ h. subst (λ (f : Forest). Below (nodes t) (preorder f)) (sym (from-nil (suc k) v (h .1))) tt)
       (below-or-not v (nodes t))
 
@@ -85,14 +87,18 @@ module _ (t : List ℕ) where
       (below-or-not v (nodes t))
   one-further w hw (suc k) v =
       ⊎-elim (λ h.
-          ap (λ (f : Forest). count w (preorder f)) (from-node (suc k) v (h .1))
-          ∙ omega (arith, one-further w hw k (firstChild t v), one-further w hw k (nextSibling t v)
-            , count-append w (preorder (forestFrom (suc k) t (firstChild t v))) (preorder (forestFrom (suc k) t (nextSibling t v)))
-            , sumOver-append (names t w) (preorder (forestFrom k t (firstChild t v))) (preorder (forestFrom k t (nextSibling t v)))
-            , ap (λ (f : Forest). sumOver (names t w) (preorder f)) (from-node k v (h .1))))
+      ap (λ (f : Forest). count w (preorder f)) (from-node (suc k) v (h .1))
+      ∙ omega (
+        arith,
+        one-further w hw k (firstChild t v),
+        one-further w hw k (nextSibling t v),
+        count-append w (preorder (forestFrom (suc k) t (firstChild t v))) (preorder (forestFrom (suc k) t (nextSibling t v))),
+        sumOver-append (names t w) (preorder (forestFrom k t (firstChild t v))) (preorder (forestFrom k t (nextSibling t v))),
+        ap (λ (f : Forest). sumOver (names t w) (preorder f)) (from-node k v (h .1)),
+      ))
       (λ h.
-          ap (λ (f : Forest). count w (preorder f)) (from-nil (suc (suc k)) v (h .1))
-          ∙ omega (arith, is-other w v (λ e. omega (arith, h .0)), ap (λ (f : Forest). sumOver (names t w) (preorder f)) (from-nil (suc k) v (h .1))))
+      ap (λ (f : Forest). count w (preorder f)) (from-nil (suc (suc k)) v (h .1))
+      ∙ omega (arith, is-other w v (λ e. omega (arith, h .0)), ap (λ (f : Forest). sumOver (names t w) (preorder f)) (from-nil (suc k) v (h .1))))
       (below-or-not v (nodes t))
 
   -- either a further step adds nothing, or there are as many nodes as steps
@@ -103,11 +109,11 @@ module _ (t : List ℕ) where
       (below-or-not v (nodes t))
   whole-or-long (suc k) v =
       ⊎-elim (λ h.
-          ⊎-elim (λ p.
-              ⊎-elim (λ q. inl (from-node (suc k) v (h .1) ∙ ap₂ (node v) p q ∙ sym (from-node k v (h .1))))
-              (λ q. inr (omega (arith, ap size (from-node (suc k) v (h .1)))))
-              (whole-or-long k (nextSibling t v)))
-          (λ p. inr (omega (arith, ap size (from-node (suc k) v (h .1)))))
-          (whole-or-long k (firstChild t v)))
+      ⊎-elim (λ p.
+      ⊎-elim (λ q. inl (from-node (suc k) v (h .1) ∙ ap₂ (node v) p q ∙ sym (from-node k v (h .1))))
+      (λ q. inr (omega (arith, ap size (from-node (suc k) v (h .1)))))
+      (whole-or-long k (nextSibling t v)))
+      (λ p. inr (omega (arith, ap size (from-node (suc k) v (h .1)))))
+      (whole-or-long k (firstChild t v)))
       (λ h. inl (from-nil (suc (suc k)) v (h .1) ∙ sym (from-nil (suc k) v (h .1))))
       (below-or-not v (nodes t))

@@ -1,10 +1,10 @@
 -- The renumbered table: it is accepted, stands for the tree numbered in preorder, and has the shape of the table that it comes from; each
 -- new number corresponds to the old number that the map gives. Assumes nothing.
 use mathlib.Core.Path.{_≡_, refl, sym, ap, ap₂, _∙_, subst}
-use mathlib.Core.Bool.{Bool, true, _&&_}
+use mathlib.Core.Bool.{true, _&&_}
 use mathlib.Core.List.{List, [], _∷_, _++_}
-use Prim.Native.Nat.{ℕ, zero, suc, _+_, _≤_, _<_}
-use native.Mathlib.Nat.{zero-add, add-zero, add-assoc, add-suc, suc-add}
+use Prim.Native.Nat.{ℕ, zero, suc, _+_}
+use native.Mathlib.Nat.{zero-add, add-zero, suc-add}
 use native.Mathlib.Numerals.{add-one}
 use native.Mathlib.Omega.{arith}
 use lib.ListN.{length}
@@ -81,14 +81,16 @@ numberFrom-numbers n f N =
       below = subst (Below n) order (below-upTo n);
       each = λ v h. ap (count v) (sym order) ∙ count-upTo n v h;
       root = root f (N .root);
-      alone = alone f (N .alone)
+      alone = alone f (N .alone);
     }
   where
     order : upTo n ≡ preorder (numberFrom 0 f)
     order = run-upTo n ∙ ap (run 0) (sym (numbers-size n f N)) ∙ sym (preorder-numberFrom 0 f)
+
     root : (f : Forest) → entry f ≡ 0 → entry (numberFrom 0 f) ≡ 0
     root nil e = e
     root (node v f g) e = refl
+
     alone : (f : Forest) → siblings f ≡ nil → siblings (numberFrom 0 f) ≡ nil
     alone nil e = refl
     alone (node v f g) e = ap (numberFrom (0 + 1 + size f)) e

@@ -1,24 +1,24 @@
 -- One pass over the entries of a table, in lists: which nodes are marked as named, and how many entries named a marked node.
 -- Assumes nothing.
-use mathlib.Core.Path.{_≡_, refl, sym, ap, ap₂, _∙_, subst}
-use mathlib.Core.Logic.{_⊎_, inl, inr, ⊎-elim}
-use mathlib.Core.Bool.{Bool, true, false, not, _||_, _&&_}
+use mathlib.Core.Path.{_≡_, refl, sym, ap, _∙_, subst}
+use mathlib.Core.Logic.{inl, inr, ⊎-elim}
+use mathlib.Core.Bool.{true, false, not}
 use mathlib.Core.List.{List, [], _∷_, _++_}
 use Prim.Native.Nat.{ℕ, zero, suc, _+_, _-_, _*_, _≤_, _<_, min}
 use native.Mathlib.Nat.{not-suc-le-zero, le-of-suc-le-suc}
 use native.Mathlib.Numerals.{add-one}
 use native.Mathlib.Omega.{arith}
-use lib.Dec.{eqb, ltb}
+use lib.Dec.{eqb}
 use lib.ListN.{length, getD, take, set, replicate, length-set, length-replicate, getD-replicate}
 use lib.Seq.{take-suc, take-all, getD-set-same, getD-set-other}
-use borrow.Author.Tests.{eq-eqb, ne-eqb, lt-ltb, le-ltb, eqb-true, ltb-true}
-use Rattle.tree.specs.Numbers.{is, count, any, upTo}
+use borrow.Author.Tests.{eq-eqb, ne-eqb}
+use Rattle.tree.specs.Numbers.{is, count}
 use Rattle.tree.specs.Table.{none, nodes}
 use Rattle.tree.specs.WellFormed.{badLength, badEntry, namedTwice}
-use Rattle.tree.proofs.Counting.{is-same, is-other, is-cases, count-append, All, all-append, sumBelow, sumBelow-add, sumBelow-zero, sumBelow-cong, sumBelow-term, sumBelow-single}
-use Rattle.tree.proofs.Tests.{true-false, true-or-false, any-false, all-any, all-at}
+use Rattle.tree.proofs.Counting.{is-other, is-cases, count-append, All, all-append, sumBelow, sumBelow-add, sumBelow-zero, sumBelow-cong, sumBelow-term, sumBelow-single}
+use Rattle.tree.proofs.Tests.{true-false, true-or-false, all-at}
 use Rattle.tree.proofs.Linked.{Names}
-use Rattle.tree.proofs.Accepted.{good-length, bad-false, bad, entries-named, named-entries, once-named, named-once}
+use Rattle.tree.proofs.Accepted.{good-length, entries-named, named-entries, once-named, named-once}
 
 -- what stands inside a list does not depend on the default
 pub getD-any {ℓ} : {A : Type ℓ} (l : List A) (i : ℕ) (d e : A) → i < length l → getD l i d ≡ getD l i e
@@ -51,11 +51,12 @@ module _ (t : List ℕ) (ok : badLength t ≡ false) where
         good = tt;
         few = omega arith;
         marks = marks;
-        sum = sym (sumBelow-cong (nodes t) (λ v. naming t 0 v - 1) (λ v. 0) (λ v h. none-yet v) ∙ sumBelow-zero (nodes t))
+        sum = sym (sumBelow-cong (nodes t) (λ v. naming t 0 v - 1) (λ v. 0) (λ v h. none-yet v) ∙ sumBelow-zero (nodes t));
       }
     where
       none-yet : (v : ℕ) → naming t 0 v - 1 ≡ 0
       none-yet v = ⊎-elim (λ s. omega (arith, s .1)) (λ s. omega (arith, s .1)) (is-cases v 0)
+
       marks : (v : ℕ) → v < nodes t → getD (set (replicate 1024 0) 0 1) v 0 ≡ min 1 (naming t 0 v)
       marks v h =
           ⊎-elim (λ s. ap (λ (x : ℕ). getD (set (replicate 1024 0) 0 1) x 0) (s .0) ∙ omega (arith, s .1))
@@ -78,7 +79,7 @@ module _ (t named : List ℕ) (repeats i : ℕ) (S : Scanning t named repeats i)
         good = subst (All (Names (nodes t))) (sym taken) (all-append (Names (nodes t)) (take i t) (getD t i 0 ∷ []) (S .good) (inr e, tt));
         few = omega (arith, S .few);
         marks = λ v h. S .marks v h ∙ ap (min 1) (sym (same v h));
-        sum = S .sum ∙ sumBelow-cong (nodes t) (λ v. naming t i v - 1) (λ v. naming t (i + 1) v - 1) (λ v h. ap (λ (k : ℕ). k - 1) (sym (same v h)))
+        sum = S .sum ∙ sumBelow-cong (nodes t) (λ v. naming t i v - 1) (λ v. naming t (i + 1) v - 1) (λ v h. ap (λ (k : ℕ). k - 1) (sym (same v h)));
       }
     where
       same : (v : ℕ) → v < nodes t → naming t (i + 1) v ≡ naming t i v
@@ -93,37 +94,44 @@ module _ (t named : List ℕ) (repeats i : ℕ) (S : Scanning t named repeats i)
         good = subst (All (Names (nodes t))) (sym taken) (all-append (Names (nodes t)) (take i t) (e ∷ []) (S .good) (inl below, tt));
         few = omega (arith, S .few, S .marks e below);
         marks = marks;
-        sum = sum
+        sum = sum;
       }
     where
       e : ℕ
       e = getD t i 0
+
       marks : (v : ℕ) → v < nodes t → getD (set named (getD t i 0) 1) v 0 ≡ min 1 (naming t (i + 1) v)
       marks v h =
           ⊎-elim (λ s.
-              ap (λ (x : ℕ). getD (set named (getD t i 0) 1) x 0) (s .0)
-              ∙ getD-set-same named (getD t i 0) 1 0 (omega (arith, S .size))
-              ∙ omega (arith, counted v, s .1))
+          ap (λ (x : ℕ). getD (set named (getD t i 0) 1) x 0) (s .0)
+          ∙ getD-set-same named (getD t i 0) 1 0 (omega (arith, S .size))
+          ∙ omega (arith, counted v, s .1))
           (λ s. getD-set-other named (getD t i 0) v 1 0 (s .0) ∙ S .marks v h ∙ ap (min 1) (omega (arith, counted v, s .1)))
           (is-cases v (getD t i 0))
+
       each : (v : ℕ) → v < nodes t → naming t (i + 1) v - 1 ≡ (naming t i v - 1) + is v (getD t i 0) * min 1 (naming t i v)
       each v h =
           ⊎-elim (λ s. omega (arith, counted v, s .1, ap (λ (k : ℕ). k * min 1 (naming t i v)) (s .1)))
           (λ s. omega (arith, counted v, s .1, ap (λ (k : ℕ). k * min 1 (naming t i v)) (s .1)))
           (is-cases v (getD t i 0))
+
       sum : repeats + getD named (getD t i 0) 0 ≡ sumBelow (nodes t) (λ v. naming t (i + 1) v - 1)
       sum =
-          omega (arith, S .sum, S .marks (getD t i 0) below
-          , sumBelow-cong (nodes t) (λ v. naming t (i + 1) v - 1) (λ v. (naming t i v - 1) + is v (getD t i 0) * min 1 (naming t i v)) each
-          , sumBelow-add (nodes t) (λ v. naming t i v - 1) (λ v. is v (getD t i 0) * min 1 (naming t i v))
-          , sumBelow-single (λ v. min 1 (naming t i v)) (nodes t) (getD t i 0) below)
+          omega (
+            arith,
+            S .sum,
+            S .marks (getD t i 0) below,
+            sumBelow-cong (nodes t) (λ v. naming t (i + 1) v - 1) (λ v. (naming t i v - 1) + is v (getD t i 0) * min 1 (naming t i v)) each,
+            sumBelow-add (nodes t) (λ v. naming t i v - 1) (λ v. is v (getD t i 0) * min 1 (naming t i v)),
+            sumBelow-single (λ v. min 1 (naming t i v)) (nodes t) (getD t i 0) below,
+          )
 
 -- an entry that is neither none nor a node's
 pub scan-bad : (t : List ℕ) (i : ℕ) → i < length t → (getD t i 0 ≡ none → ⊥) → nodes t ≤ getD t i 0 → true ≡ badEntry t
 scan-bad t i h some large =
     ⊎-elim (λ e. sym e)
     (λ e. absurd (⊎-elim (λ k. omega (arith, k, getD-any t i 0 none h)) (λ k. some (getD-any t i 0 none h ∙ k))
-        (all-at (Names (nodes t)) t none (entries-named t e) i h)))
+    (all-at (Names (nodes t)) t none (entries-named t e) i h)))
     (true-or-false (badEntry t))
 
 -- past the last entry
@@ -137,14 +145,19 @@ module _ (t named : List ℕ) (repeats i : ℕ) (ok : badLength t ≡ false) (S 
   pub scan-repeated : not (eqb repeats 0) ≡ namedTwice t
   scan-repeated =
       ⊎-elim (λ e.
-          ap not (ne-eqb repeats 0 (λ z. true-false (sym e ∙ once-named t some (λ w h. omega (arith, ap (count w) whole, S .sum, z
-              , sumBelow-term (nodes t) (λ v. naming t i v - 1) w h)))))
-          ∙ sym e)
+      ap not (ne-eqb repeats 0 (λ z. true-false (sym e ∙ once-named t some (λ w h. omega (
+        arith,
+        ap (count w) whole,
+        S .sum,
+        z,
+        sumBelow-term (nodes t) (λ v. naming t i v - 1) w h,
+      )))))
+      ∙ sym e)
       (λ e.
-          ap not (eq-eqb repeats 0 (S .sum
-              ∙ sumBelow-cong (nodes t) (λ v. naming t i v - 1) (λ v. 0) (λ v h. omega (arith, ap (count v) whole, named-once t e v h))
-              ∙ sumBelow-zero (nodes t)))
-          ∙ sym e)
+      ap not (eq-eqb repeats 0 (S .sum
+      ∙ sumBelow-cong (nodes t) (λ v. naming t i v - 1) (λ v. 0) (λ v h. omega (arith, ap (count v) whole, named-once t e v h))
+      ∙ sumBelow-zero (nodes t)))
+      ∙ sym e)
       (true-or-false (namedTwice t))
     where
       some : 0 < nodes t

@@ -1,25 +1,21 @@
--- A table that agrees with a tree on the numbers below n is accepted and stands for that tree, and there is just one such table: the one
--- that `tableOf` gives. Assumes nothing.
-use mathlib.Core.Path.{_≡_, refl, sym, ap, ap₂, _∙_, subst}
+-- A table that agrees with a tree on the numbers below n is accepted and stands for that tree. Assumes nothing.
+use mathlib.Core.Path.{_≡_, refl, sym, ap, _∙_, subst}
 use mathlib.Core.Logic.{_⊎_, inl, inr, ⊎-elim}
-use mathlib.Core.Bool.{Bool, true, false}
-use mathlib.Core.List.{List, [], _∷_, _++_, append-assoc, append-nil}
+use mathlib.Core.List.{List}
 use Prim.Native.Nat.{ℕ, zero, suc, _+_, _*_, _/_, _%_, _≤_, _<_}
-use native.Mathlib.Nat.{not-suc-le-zero}
 use native.Mathlib.Omega.{arith}
-use lib.ListN.{length, getD, length-append, List·getD-append}
-use lib.Seq.{ext-getD, getD-append-add}
-use Rattle.refusal.proofs.Laws.{NoneHolds, first-none, none-first}
-use Rattle.tree.specs.Numbers.{is, count, upTo, flatMap}
+use lib.ListN.{length, getD}
+use Rattle.refusal.proofs.Laws.{first-none, none-first}
+use Rattle.tree.specs.Numbers.{is, count, upTo}
 use Rattle.tree.specs.Table.{none, nodes, firstChild, nextSibling}
-use Rattle.tree.specs.Forest.{Forest, nil, node, forestFrom, forest, treeOf, size, preorder, entry, children, siblings, startingAt, row, tableOf}
+use Rattle.tree.specs.Forest.{Forest, nil, node, forestFrom, forest, treeOf, size, preorder, entry, siblings}
 use Rattle.tree.specs.WellFormed.{tableConditions, tableNumber, Passed}
-use Rattle.tree.proofs.Counting.{is-same, is-other, is-cases, count-append, Below, All, all-left, all-right, sumBelow, sumOver, sumOver-append, sumOver-same, sumOver-upTo, below-upTo, count-upTo, Distinct, distinct-length, covering-length}
-use Rattle.tree.proofs.Tests.{all-at, at-all}
+use Rattle.tree.proofs.Counting.{is-other, count-append, Below, all-left, all-right, sumOver, sumOver-append, sumOver-same, sumOver-upTo, below-upTo, count-upTo, distinct-length, covering-length}
+use Rattle.tree.proofs.Tests.{at-all}
 use Rattle.tree.proofs.Reading.{Agrees, names, named-by-rows, size-preorder}
-use Rattle.tree.proofs.Linked.{Names, Linked, read-back, tree-below, tree-distinct, tree-size, tree-agrees, tree-entry}
-use Rattle.tree.proofs.Accepted.{linked, length-good, named-entries, alone-root, once-named, all-reached, size-reached, reached-size}
-use Rattle.tree.proofs.Parts.{Part, locate, part-agrees, part-below, part-count, starting-part}
+use Rattle.tree.proofs.Linked.{Names, read-back, tree-below, tree-distinct, tree-agrees, tree-entry}
+use Rattle.tree.proofs.Accepted.{linked, length-good, named-entries, alone-root, once-named, all-reached, size-reached}
+use Rattle.tree.proofs.Parts.{locate, part-agrees, part-below}
 
 -- f is a tree of one root, node 0, on just the numbers below n
 pub record Numbers (n : ℕ) (f : Forest) : Type 0 where
@@ -32,8 +28,12 @@ pub record Numbers (n : ℕ) (f : Forest) : Type 0 where
 
 pub numbers-size : (n : ℕ) (f : Forest) → Numbers n f → size f ≡ n
 numbers-size n f N =
-    omega (arith, size-preorder f, distinct-length n (preorder f) (N .below) (λ v h. omega (arith, N .each v h))
-    , covering-length n (preorder f) (λ v h. omega (arith, N .each v h)))
+    omega (
+      arith,
+      size-preorder f,
+      distinct-length n (preorder f) (N .below) (λ v h. omega (arith, N .each v h)),
+      covering-length n (preorder f) (λ v h. omega (arith, N .each v h)),
+    )
 
 -- ---- an accepted table
 
@@ -60,15 +60,19 @@ accepted-numbers t e =
       below = tree-below t L;
       each = λ v h. omega (arith, tree-distinct t L v h, reached t e v h);
       root = tree-entry t L;
-      alone = single (treeOf t) (tree-entry t L) (tree-agrees t L) (L .alone) (L .few) (tree-below t L)
+      alone = single (treeOf t) (tree-entry t L) (tree-agrees t L) (L .alone) (L .few) (tree-below t L);
     }
   where
     single : (f : Forest) → entry f ≡ 0 → Agrees t f → nextSibling t 0 ≡ none → nodes t ≤ 1024 → Below (nodes t) (preorder f) → siblings f ≡ nil
     single nil r a s few b = refl
     single (node v f nil) r a s few b = refl
     single (node v f (node w g h)) r a s few b =
-        absurd (omega (arith, few, all-right (λ x. x < nodes t) (preorder f) (preorder (node w g h)) (b .1) .0
-            , sym (a .1) ∙ ap (nextSibling t) r ∙ s))
+        absurd (omega (
+          arith,
+          few,
+          all-right (λ x. x < nodes t) (preorder f) (preorder (node w g h)) (b .1) .0,
+          sym (a .1) ∙ ap (nextSibling t) r ∙ s,
+        ))
 
 pub accepted-size : (t : List ℕ) → tableNumber t ≡ 0 → size (treeOf t) ≡ nodes t
 accepted-size t e = numbers-size (nodes t) (treeOf t) (accepted-numbers t e)
@@ -87,8 +91,15 @@ entry-names n (node v f g) b = inl (b .0)
 named-in : (t : List ℕ) (w : ℕ) → w < 1024 → (f : Forest) → Agrees t f → is w (entry f) + sumOver (names t w) (preorder f) ≡ count w (preorder f)
 named-in t w h nil a = omega (arith, is-other w none (λ e. omega arith))
 named-in t w h (node v f g) a =
-    omega (arith, named-in t w h f (a .2), named-in t w h g (a .3), ap (is w) (a .0), ap (is w) (a .1)
-    , count-append w (preorder f) (preorder g), sumOver-append (names t w) (preorder f) (preorder g))
+    omega (
+      arith,
+      named-in t w h f (a .2),
+      named-in t w h g (a .3),
+      ap (is w) (a .0),
+      ap (is w) (a .1),
+      count-append w (preorder f) (preorder g),
+      sumOver-append (names t w) (preorder f) (preorder g),
+    )
 
 module _ (t : List ℕ) (f : Forest) (even : length t ≡ 2 * nodes t) (N : Numbers (nodes t) f) (a : Agrees t f) where
   row-at : (v : ℕ) → v < nodes t → (g : Forest) × (h : Forest) × (firstChild t v ≡ entry g) × (nextSibling t v ≡ entry h)
@@ -96,9 +107,14 @@ module _ (t : List ℕ) (f : Forest) (even : length t ≡ 2 * nodes t) (N : Numb
   row-at v h =
       let r = locate f v (omega (arith, N .each v h)) in
       let b = part-below (nodes t) (r .2) (N .below) in
-      let p = part-agrees t (r .2) a in
-      (r .0, r .1, p .0, p .1, all-left (λ x. x < nodes t) (preorder (r .0)) (preorder (r .1)) (b .1)
-      , all-right (λ x. x < nodes t) (preorder (r .0)) (preorder (r .1)) (b .1))
+      let p = part-agrees t (r .2) a in (
+        r .0,
+        r .1,
+        p .0,
+        p .1,
+        all-left (λ x. x < nodes t) (preorder (r .0)) (preorder (r .1)) (b .1),
+        all-right (λ x. x < nodes t) (preorder (r .0)) (preorder (r .1)) (b .1),
+      )
 
   entry-at : (i : ℕ) → i < length t → Names (nodes t) (getD t i none)
   entry-at i h = ⊎-elim left right (even-or-odd i)
@@ -109,10 +125,12 @@ module _ (t : List ℕ) (f : Forest) (even : length t ≡ 2 * nodes t) (N : Numb
           go : (r : ℕ) → i % 2 ≡ r → (i ≡ 2 * (i / 2)) ⊎ (i ≡ 2 * (i / 2) + 1)
           go zero e = inl (omega arith)
           go (suc r) e = inr (omega arith)
+
       left : i ≡ 2 * (i / 2) → Names (nodes t) (getD t i none)
       left e =
           let r = row-at (i / 2) (omega (arith, even)) in
           subst (Names (nodes t)) (sym (ap (λ (k : ℕ). getD t k none) e ∙ r .2)) (entry-names (nodes t) (r .0) (r .4))
+
       right : i ≡ 2 * (i / 2) + 1 → Names (nodes t) (getD t i none)
       right e =
           let r = row-at (i / 2) (omega (arith, even)) in
@@ -120,10 +138,16 @@ module _ (t : List ℕ) (f : Forest) (even : length t ≡ 2 * nodes t) (N : Numb
 
   once-at : (w : ℕ) → w < nodes t → is w 0 + count w t ≤ 1
   once-at w h =
-      omega (arith, named-by-rows t even w, sumOver-upTo (names t w) (nodes t)
-      , sumOver-same (names t w) (nodes t) (upTo (nodes t)) (preorder f) (below-upTo (nodes t)) (N .below)
-          (λ x k. count-upTo (nodes t) x k ∙ sym (N .each x k))
-      , named-in t w (omega (arith, N .few)) f a, ap (is w) (N .root), N .each w h)
+      omega (
+        arith,
+        named-by-rows t even w,
+        sumOver-upTo (names t w) (nodes t),
+        sumOver-same (names t w) (nodes t) (upTo (nodes t)) (preorder f) (below-upTo (nodes t)) (N .below)
+            (λ x k. count-upTo (nodes t) x k ∙ sym (N .each x k)),
+        named-in t w (omega (arith, N .few)) f a,
+        ap (is w) (N .root),
+        N .each w h,
+      )
 
   stands-passed : Passed t
   stands-passed =
@@ -131,7 +155,7 @@ module _ (t : List ℕ) (f : Forest) (even : length t ≡ 2 * nodes t) (N : Numb
         size = length-good t (omega (arith, even), omega (arith, even, N .some), omega (arith, even, N .few));
         entries = named-entries t (at-all (Names (nodes t)) t none entry-at);
         root = alone-root t (next f (N .root) (N .alone) a);
-        named = once-named t (N .some) once-at
+        named = once-named t (N .some) once-at;
       }
     where
       next : (f : Forest) → entry f ≡ 0 → siblings f ≡ nil → Agrees t f → nextSibling t 0 ≡ none

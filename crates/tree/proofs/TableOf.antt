@@ -1,17 +1,16 @@
 -- The table of a tree: its rows, that it agrees with the tree, and that no other table of its length does. Assumes nothing.
-use mathlib.Core.Path.{_≡_, refl, sym, ap, ap₂, _∙_, subst}
-use mathlib.Core.Logic.{_⊎_, inl, inr, ⊎-elim}
-use mathlib.Core.List.{List, [], _∷_, _++_, append-assoc, append-nil}
-use Prim.Native.Nat.{ℕ, zero, suc, _+_, _*_, _/_, _%_, _≤_, _<_}
+use mathlib.Core.Path.{_≡_, refl, sym, ap, _∙_, subst}
+use mathlib.Core.Logic.{⊎-elim}
+use mathlib.Core.List.{List, [], _∷_, _++_, append-assoc}
+use Prim.Native.Nat.{ℕ, zero, suc, _+_, _*_, _/_, _%_, _<_}
 use native.Mathlib.Nat.{not-suc-le-zero}
 use native.Mathlib.Omega.{arith}
 use lib.ListN.{length, getD, length-append, List·getD-append}
 use lib.Seq.{ext-getD, getD-append-add}
-use Rattle.tree.specs.Numbers.{count, upTo, flatMap}
+use Rattle.tree.specs.Numbers.{upTo, flatMap}
 use Rattle.tree.specs.Table.{none, nodes, firstChild, nextSibling}
-use Rattle.tree.specs.Forest.{Forest, nil, node, treeOf, size, preorder, entry, children, siblings, startingAt, row, tableOf}
+use Rattle.tree.specs.Forest.{Forest, nil, node, treeOf, preorder, entry, children, siblings, startingAt, tableOf}
 use Rattle.tree.specs.WellFormed.{tableNumber}
-
 use Rattle.tree.proofs.Counting.{is-cases, Below, all-left, all-right}
 use Rattle.tree.proofs.Reading.{Agrees}
 use Rattle.tree.proofs.Parts.{Part, whole, in-children, in-siblings, locate, part-agrees, part-trans, starting-part}
@@ -40,16 +39,17 @@ module _ (first second : ℕ → ℕ) where
   row-entry (suc n) v k h hk =
       ap (λ (l : List ℕ). getD l (2 * v + k) none) (rows-suc n)
       ∙ ⊎-elim (λ s.
-          ap (λ (i : ℕ). getD (rows n ++ (first n ∷ second n ∷ [])) i none) (omega (arith, s .0, length-rows n))
-          ∙ getD-append-add (rows n) (first n ∷ second n ∷ []) k none
-          ∙ ap (λ (w : ℕ). getD (first w ∷ second w ∷ []) k none) (sym (s .0)))
-        (λ s.
-          List·getD-append (rows n) (first n ∷ second n ∷ []) none (2 * v + k) (inside (s .0))
-          ∙ row-entry n v k (less (s .0)) hk)
-        (is-cases v n)
+      ap (λ (i : ℕ). getD (rows n ++ (first n ∷ second n ∷ [])) i none) (omega (arith, s .0, length-rows n))
+      ∙ getD-append-add (rows n) (first n ∷ second n ∷ []) k none
+      ∙ ap (λ (w : ℕ). getD (first w ∷ second w ∷ []) k none) (sym (s .0)))
+      (λ s.
+      List·getD-append (rows n) (first n ∷ second n ∷ []) none (2 * v + k) (inside (s .0))
+      ∙ row-entry n v k (less (s .0)) hk)
+      (is-cases v n)
     where
       less : (v ≡ n → ⊥) → v < n
       less d = omega arith
+
       inside : (v ≡ n → ⊥) → 2 * v + k < length (rows n)
       inside d = omega (arith, length-rows n)
 
@@ -70,6 +70,7 @@ same-rows n t u lt lu same = ext-getD none t u (lt ∙ sym lu) each
       where
         at : (k : ℕ) → i ≡ k → getD t k none ≡ getD u k none → getD t i none ≡ getD u i none
         at k e p = ap (λ (j : ℕ). getD t j none) e ∙ p ∙ ap (λ (j : ℕ). getD u j none) (sym e)
+
         go : (r : ℕ) → i % 2 ≡ r → getD t i none ≡ getD u i none
         go zero e = at (2 * (i / 2)) (omega arith) (same (i / 2) (omega (arith, lt)) .0)
         go (suc r) e = at (2 * (i / 2) + 1) (omega arith) (same (i / 2) (omega (arith, lt)) .1)
@@ -88,9 +89,10 @@ module _ (n : ℕ) (f : Forest) (N : Numbers n f) where
       → (firstChild (tableOf n f) v ≡ entry g) × (nextSibling (tableOf n f) v ≡ entry h)
   unfolding tableOf
   part-row v g h k p =
-      let e = starting-part v g h p (omega (arith, N .each v k)) in
-      ( rows-first (λ v. entry (children (startingAt v f))) (λ v. entry (siblings (startingAt v f))) n v k ∙ ap (λ (x : Forest). entry (children x)) e
-      , rows-second (λ v. entry (children (startingAt v f))) (λ v. entry (siblings (startingAt v f))) n v k ∙ ap (λ (x : Forest). entry (siblings x)) e)
+      let e = starting-part v g h p (omega (arith, N .each v k)) in (
+        rows-first (λ v. entry (children (startingAt v f))) (λ v. entry (siblings (startingAt v f))) n v k ∙ ap (λ (x : Forest). entry (children x)) e,
+        rows-second (λ v. entry (children (startingAt v f))) (λ v. entry (siblings (startingAt v f))) n v k ∙ ap (λ (x : Forest). entry (siblings x)) e,
+      )
 
   pub tableOf-agrees : Agrees (tableOf n f) f
   tableOf-agrees = each f whole (N .below)
@@ -98,9 +100,12 @@ module _ (n : ℕ) (f : Forest) (N : Numbers n f) where
       each : (g : Forest) → Part g f → Below n (preorder g) → Agrees (tableOf n f) g
       each nil p b = tt
       each (node v g h) p b =
-          let r = part-row v g h (b .0) p in
-          (r .0, r .1, each g (part-trans (in-children whole) p) (all-left (λ x. x < n) (preorder g) (preorder h) (b .1))
-          , each h (part-trans (in-siblings whole) p) (all-right (λ x. x < n) (preorder g) (preorder h) (b .1)))
+          let r = part-row v g h (b .0) p in (
+            r .0,
+            r .1,
+            each g (part-trans (in-children whole) p) (all-left (λ x. x < n) (preorder g) (preorder h) (b .1)),
+            each h (part-trans (in-siblings whole) p) (all-right (λ x. x < n) (preorder g) (preorder h) (b .1)),
+          )
 
   -- a table that agrees with the tree is its table
   pub tableOf-unique : (t : List ℕ) → length t ≡ 2 * n → Agrees t f → t ≡ tableOf n f

@@ -1,16 +1,16 @@
--- A test that some element of a list passes, and the same said of every element. Assumes nothing.
+-- A test that some element of a list passes, the same said of every element, and the members of a list of numbers. Assumes nothing.
 use mathlib.Core.Path.{_≡_, refl, sym, ap, ap₂, _∙_, subst}
 use mathlib.Core.Logic.{_⊎_, inl, inr, ⊎-elim}
-use mathlib.Core.Bool.{Bool, true, false, _||_, _&&_, not}
+use mathlib.Core.Bool.{Bool, true, false, _||_}
 use mathlib.Core.List.{List, [], _∷_, _++_}
-use Prim.Native.Nat.{ℕ, zero, suc, _+_, _≤_, _<_}
+use Prim.Native.Nat.{ℕ, zero, suc, _≤_, _<_}
 use native.Mathlib.Nat.{not-suc-le-zero, le-of-suc-le-suc}
 use native.Mathlib.Omega.{arith}
-use lib.Dec.{eqb, ltb}
+use lib.Dec.{eqb}
 use lib.ListN.{length, getD}
-use borrow.Author.Tests.{eq-eqb, eqb-true, not-true, not-false}
-use Rattle.tree.specs.Numbers.{is, count, any, member, upTo}
-use Rattle.tree.proofs.Counting.{All, all-append, all-left, all-right, is-same, is-cases, below-or-not}
+use borrow.Author.Tests.{eq-eqb, eqb-true}
+use Rattle.tree.specs.Numbers.{count, any, member, upTo}
+use Rattle.tree.proofs.Counting.{All, all-append, all-left, all-right, is-same, is-cases}
 
 -- ---- or, and
 
@@ -27,6 +27,11 @@ or-false-right true b e = absurd (true-false e)
 
 pub or-false : {a b : Bool} → a ≡ false → b ≡ false → (a || b) ≡ false
 or-false p q = ap₂ _||_ p q
+
+pub or-true : {a b : Bool} → (a ≡ true) ⊎ (b ≡ true) → (a || b) ≡ true
+or-true {b = b} (inl e) = ap (λ (x : Bool). x || b) e
+or-true {a = true} (inr e) = refl
+or-true {a = false} (inr e) = e
 
 pub true-or-false : (b : Bool) → (b ≡ true) ⊎ (b ≡ false)
 true-or-false true = inl refl
@@ -85,3 +90,25 @@ member-none x (y ∷ l) e =
     ⊎-elim (λ s. absurd (true-false (sym (eq-eqb x y (s .0)) ∙ or-false-left (eqb x y) (member x l) e)))
     (λ s. omega (arith, s .1, member-none x l (or-false-right (eqb x y) (member x l) e)))
     (is-cases x y)
+
+pub count-member : (x : ℕ) (l : List ℕ) → 1 ≤ count x l → member x l ≡ true
+count-member x l h = ⊎-elim (λ e. e) (λ e. absurd (omega (arith, member-none x l e))) (true-or-false (member x l))
+
+pub none-member : (x : ℕ) (l : List ℕ) → count x l ≡ 0 → member x l ≡ false
+none-member x l e = ⊎-elim (λ h. absurd (omega (arith, member-count x l h))) (λ h. h) (true-or-false (member x l))
+
+pub member-append : (x : ℕ) (l m : List ℕ) → member x (l ++ m) ≡ (member x l || member x m)
+member-append x [] m = refl
+member-append x (y ∷ l) m = ap (λ (b : Bool). eqb x y || b) (member-append x l m) ∙ or-assoc (eqb x y) (member x l) (member x m)
+  where
+    or-assoc : (a b c : Bool) → (a || (b || c)) ≡ ((a || b) || c)
+    or-assoc true b c = refl
+    or-assoc false b c = refl
+
+-- what holds of every element holds of a member
+pub member-all : (P : ℕ → Type 0) (x : ℕ) (l : List ℕ) → All P l → member x l ≡ true → P x
+member-all P x [] a e = absurd (true-false (sym e))
+member-all P x (y ∷ l) a e =
+    ⊎-elim (λ h. subst P (sym (eqb-true x y h)) (a .0))
+    (λ h. member-all P x l (a .1) (sym (ap (λ (b : Bool). b || member x l) h) ∙ e))
+    (true-or-false (eqb x y))

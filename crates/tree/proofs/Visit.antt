@@ -1,24 +1,22 @@
 -- One turn of the visit in preorder, in lists: the nodes visited at the front of a list, and those still to be visited on a stack at its end.
 -- Assumes nothing.
 use mathlib.Core.Path.{_≡_, refl, sym, ap, ap₂, _∙_, subst, subst₂}
-use mathlib.Core.Logic.{_⊎_, inl, inr, ⊎-elim}
+use mathlib.Core.Logic.{⊎-elim}
 use mathlib.Core.Bool.{Bool, true, false, cond}
 use mathlib.Core.List.{List, [], _∷_, _++_, append-assoc, append-nil}
-use Prim.Native.Nat.{ℕ, zero, suc, _+_, _-_, _*_, _≤_, _<_}
-use native.Mathlib.Nat.{not-suc-le-zero}
+use Prim.Native.Nat.{ℕ, suc, _+_, _-_, _*_, _≤_, _<_}
 use native.Mathlib.Numerals.{add-one}
 use native.Mathlib.Omega.{arith}
-use lib.Dec.{eqb, ltb}
-use lib.ListN.{length, getD, take, drop, set, length-append, length-take, length-drop, length-set}
+use lib.Dec.{eqb}
+use lib.ListN.{length, getD, take, drop, set, length-append, length-drop, length-set}
 use lib.Seq.{take-suc-set, take-set-le, drop-cons, drop-set-lt, getD-set-same, length-take-le, drop-length}
-use borrow.Author.Tests.{eq-eqb, ne-eqb, lt-ltb, le-ltb}
+use borrow.Author.Tests.{eq-eqb, ne-eqb}
 use Rattle.tree.specs.Numbers.{flatMap}
 use Rattle.tree.specs.Table.{none, nodes, firstChild, nextSibling}
 use Rattle.tree.specs.Forest.{Forest, nil, node, forestFrom, forest, treeOf, size, preorder, entry}
-use Rattle.tree.specs.WellFormed.{Passed}
 use Rattle.tree.specs.Steps.{pushed, pushedLow, Pushed}
 use Rattle.tree.proofs.Counting.{is-cases, All, Below, all-left, all-right}
-use Rattle.tree.proofs.Reading.{Agrees, size-preorder, from-below, from-nil}
+use Rattle.tree.proofs.Reading.{Agrees, size-preorder, from-below}
 use Rattle.tree.proofs.Scan.{getD-any}
 use Rattle.tree.proofs.Linked.{Names, Linked, read-back, tree-agrees, tree-entry, tree-size}
 
@@ -45,12 +43,13 @@ module _ (l : List ℕ) (low e : ℕ) (room : (e ≡ none → ⊥) → 0 < low) 
       at : (b : Bool) → eqb e none ≡ b → drop (cond b low (low - 1)) (cond b l (set l (low - 1) e)) ≡ cond b (drop low l) (e ∷ drop low l)
           → drop (pushedLow low e) (pushed l low e) ≡ stacked e (drop low l)
       at b p q = subst (λ (b : Bool). drop (cond b low (low - 1)) (cond b l (set l (low - 1) e)) ≡ cond b (drop low l) (e ∷ drop low l)) (sym p) q
+
       put : 0 < low → drop (low - 1) (set l (low - 1) e) ≡ e ∷ drop low l
       put h =
           let next : suc (low - 1) ≡ low = omega arith in
           drop-cons (set l (low - 1) e) (low - 1) 0 (omega (arith, length-set l (low - 1) e))
           ∙ ap₂ (λ (x : ℕ) (r : List ℕ). x ∷ r) (getD-set-same l (low - 1) e 0 (omega arith))
-            (ap (λ (k : ℕ). drop k (set l (low - 1) e)) next ∙ drop-set-lt low l (low - 1) e (omega arith))
+          (ap (λ (k : ℕ). drop k (set l (low - 1) e)) next ∙ drop-set-lt low l (low - 1) e (omega arith))
 
   pub pushed-take : (k : ℕ) → k ≤ pushedLow low e → take k (pushed l low e) ≡ take k l
   pushed-take k h = go (eqb e none) h
@@ -105,6 +104,7 @@ module _ (t : List ℕ) (L : Linked t) where
     where
       inside : Below (nodes t) (preorder (forest t v))
       inside = from-below t (nodes t) v
+
       leads : (e : ℕ) (f : Forest) → Names (nodes t) e → Agrees t f → e ≡ entry f → Below (nodes t) (preorder f) → size f ≤ nodes t → Leads t e f
       leads e f n a p b s =
           record {
@@ -112,8 +112,9 @@ module _ (t : List ℕ) (L : Linked t) where
             reads = ap (forestFrom (nodes t) t) p ∙ read-back t (L .few) f a b (nodes t) s;
             agrees = a;
             named = sym p;
-            small = s
+            small = s;
           }
+
       go : (f : Forest) → forest t v ≡ f → Agrees t f → entry f ≡ v → size f ≤ nodes t → Below (nodes t) (preorder f) → Opened t v
       go nil e a n s b = absurd (omega (arith, P .below, n, L .few))
       go (node w f g) e a n s b =
@@ -124,7 +125,7 @@ module _ (t : List ℕ) (L : Linked t) where
             below = leads (firstChild t v) f (L .child v (P .below)) (a .2) (ap (firstChild t) (sym n) ∙ a .0)
                 (all-left (λ x. x < nodes t) (preorder f) (preorder g) (b .1)) (omega arith);
             beside = leads (nextSibling t v) g (L .sibling v (P .below)) (a .3) (ap (nextSibling t) (sym n) ∙ a .1)
-                (all-right (λ x. x < nodes t) (preorder f) (preorder g) (b .1)) (omega arith)
+                (all-right (λ x. x < nodes t) (preorder f) (preorder g) (b .1)) (omega arith);
           }
 
   -- an entry on the stack
@@ -141,22 +142,23 @@ module _ (t : List ℕ) (L : Linked t) where
               below = ⊎-elim (λ h. h) (λ h. absurd (d h)) (E .names);
               agrees = subst (Agrees t) (sym (E .reads)) (E .agrees);
               named = ap entry (E .reads) ∙ E .named;
-              small = omega (arith, ap size (E .reads), E .small)
+              small = omega (arith, ap size (E .reads), E .small);
             }
 
     pub stacked-ahead : ahead t (stacked e l) ≡ preorder f ++ ahead t l
     unfolding forest
     stacked-ahead =
         ⊎-elim (λ s.
-            ap (λ (b : Bool). ahead t (cond b l (e ∷ l))) (eq-eqb e none (s .0))
-            ∙ ap (λ (g : Forest). preorder g ++ ahead t l) (sym (empty f (E .named ∙ s .0) (within f (E .reads)))))
+        ap (λ (b : Bool). ahead t (cond b l (e ∷ l))) (eq-eqb e none (s .0))
+        ∙ ap (λ (g : Forest). preorder g ++ ahead t l) (sym (empty f (E .named ∙ s .0) (within f (E .reads)))))
         (λ s.
-            ap (λ (b : Bool). ahead t (cond b l (e ∷ l))) (ne-eqb e none (s .0))
-            ∙ ap (λ (g : Forest). preorder g ++ ahead t l) (E .reads))
+        ap (λ (b : Bool). ahead t (cond b l (e ∷ l))) (ne-eqb e none (s .0))
+        ∙ ap (λ (g : Forest). preorder g ++ ahead t l) (E .reads))
         (is-cases e none)
       where
         within : (f : Forest) → forest t e ≡ f → Below (nodes t) (preorder f)
         within f r = subst (λ (g : Forest). Below (nodes t) (preorder g)) r (from-below t (nodes t) e)
+
         empty : (f : Forest) → entry f ≡ none → Below (nodes t) (preorder f) → f ≡ nil
         empty nil p b = refl
         empty (node v g h) p b = absurd (omega (arith, b .0, L .few))
@@ -200,7 +202,7 @@ module _ (t : List ℕ) (L : Linked t) where
         top = omega arith;
         apart = omega arith;
         pending = subst (All (Pending t)) (sym only) (root, tt);
-        whole = ap (ahead t) only ∙ append-nil (preorder (forest t 0)) ∙ tree
+        whole = ap (ahead t) only ∙ append-nil (preorder (forest t 0)) ∙ tree;
       }
     where
       only : drop (nodes t - 1) (set order (nodes t - 1) 0) ≡ 0 ∷ []
@@ -208,11 +210,13 @@ module _ (t : List ℕ) (L : Linked t) where
           let last : suc (nodes t - 1) ≡ length (set order (nodes t - 1) 0) = omega (arith, length-set order (nodes t - 1) 0, L .some) in
           drop-cons (set order (nodes t - 1) 0) (nodes t - 1) 0 (omega (arith, length-set order (nodes t - 1) 0, L .some))
           ∙ ap₂ (λ (x : ℕ) (r : List ℕ). x ∷ r) (getD-set-same order (nodes t - 1) 0 0 (omega (arith, L .some)))
-            (ap (λ (k : ℕ). drop k (set order (nodes t - 1) 0)) last
-            ∙ drop-length (set order (nodes t - 1) 0))
+          (ap (λ (k : ℕ). drop k (set order (nodes t - 1) 0)) last
+          ∙ drop-length (set order (nodes t - 1) 0))
+
       root : Pending t 0
       root =
           record { below = L .some; agrees = tree-agrees t L; named = tree-entry t L; small = tree-size t L }
+
       tree : preorder (forest t 0) ≡ preorder (treeOf t)
       tree = refl
 
@@ -227,6 +231,7 @@ module _ (t : List ℕ) (L : Linked t) where
           sym (append-nil (take count order))
           ∙ ap (λ (l : List ℕ). take count order ++ ahead t l) (sym (ap (λ (k : ℕ). drop k order) all ∙ drop-length order))
           ∙ W .whole
+
       counted : count ≡ size (treeOf t)
       counted = omega (arith, ap length done, length-take-le count order (omega (arith, W .apart, W .top, W .size)), size-preorder (treeOf t))
 
@@ -267,16 +272,24 @@ module _ (t : List ℕ) (L : Linked t) where
     -- there is room for both on the stack
     room : (count + 1) + (one child + one sibling) ≤ low + 1
     room =
-        omega (arith, W .size, W .top, W .apart, tree-size t L, size-preorder (treeOf t), ap length whole-then
-        , length-append (take count order ++ (getD order low 0 ∷ [])) (preorder (opened .children) ++ (preorder (opened .siblings) ++ ahead t (drop (low + 1) order)))
-        , length-append (take count order) (getD order low 0 ∷ [])
-        , length-append (preorder (opened .children)) (preorder (opened .siblings) ++ ahead t (drop (low + 1) order))
-        , length-append (preorder (opened .siblings)) (ahead t (drop (low + 1) order))
-        , length-take-le count order (omega (arith, W .size, W .top, W .apart))
-        , pending-ahead t (drop (low + 1) order) (L .few) rest-pending
-        , length-drop (low + 1) order
-        , one-size t child (opened .children) (opened .below)
-        , one-size t sibling (opened .siblings) (opened .beside))
+        omega (
+          arith,
+          W .size,
+          W .top,
+          W .apart,
+          tree-size t L,
+          size-preorder (treeOf t),
+          ap length whole-then,
+          length-append (take count order ++ (getD order low 0 ∷ [])) (preorder (opened .children) ++ (preorder (opened .siblings) ++ ahead t (drop (low + 1) order))),
+          length-append (take count order) (getD order low 0 ∷ []),
+          length-append (preorder (opened .children)) (preorder (opened .siblings) ++ ahead t (drop (low + 1) order)),
+          length-append (preorder (opened .siblings)) (ahead t (drop (low + 1) order)),
+          length-take-le count order (omega (arith, W .size, W .top, W .apart)),
+          pending-ahead t (drop (low + 1) order) (L .few) rest-pending,
+          length-drop (low + 1) order,
+          one-size t child (opened .children) (opened .below),
+          one-size t sibling (opened .siblings) (opened .beside),
+        )
 
     abbrev pub low₁ : ℕ
     low₁ = pushedLow (low + 1) sibling
@@ -316,28 +329,31 @@ module _ (t : List ℕ) (L : Linked t) where
           pending = subst (All (Pending t)) (sym stack)
               (stacked-pending t L child (opened .children) (opened .below) (stacked sibling (drop (low + 1) order))
               (stacked-pending t L sibling (opened .siblings) (opened .beside) (drop (low + 1) order) rest-pending));
-          whole = ap₂ _++_ front lies-ahead ∙ whole-then
+          whole = ap₂ _++_ front lies-ahead ∙ whole-then;
         }
       where
         apart : count + 1 ≤ low₂
         apart = omega (arith, room, pushedLow-one low₁ child, pushedLow-one (low + 1) sibling)
+
         stack : drop low₂ order₂ ≡ stacked child (stacked sibling (drop (low + 1) order))
         stack =
             pushed-drop order₁ low₁ child room₂ within₂
             ∙ ap (stacked child) (pushed-drop placed (low + 1) sibling room₁ within₁
-              ∙ ap (stacked sibling) (drop-set-lt (low + 1) order count (getD order low 0) (omega (arith, W .apart))))
+            ∙ ap (stacked sibling) (drop-set-lt (low + 1) order count (getD order low 0) (omega (arith, W .apart))))
+
         front : take (count + 1) order₂ ≡ take count order ++ (getD order low 0 ∷ [])
         front =
             pushed-take order₁ low₁ child room₂ within₂ (count + 1) apart
             ∙ pushed-take placed (low + 1) sibling room₁ within₁ (count + 1) (omega (arith, apart, pushedLow-one low₁ child))
             ∙ ap (λ (k : ℕ). take k placed) (add-one count)
             ∙ take-suc-set order count (getD order low 0) visit-count
+
         lies-ahead : ahead t (drop low₂ order₂) ≡ preorder (opened .children) ++ (preorder (opened .siblings) ++ ahead t (drop (low + 1) order))
         lies-ahead =
             ap (ahead t) stack
             ∙ stacked-ahead t L child (opened .children) (opened .below) (stacked sibling (drop (low + 1) order))
             ∙ ap (λ (l : List ℕ). preorder (opened .children) ++ l)
-              (stacked-ahead t L sibling (opened .siblings) (opened .beside) (drop (low + 1) order))
+            (stacked-ahead t L sibling (opened .siblings) (opened .beside) (drop (low + 1) order))
 
     -- ---- the same, as the code has it: entries are read where they are inside the table
 
@@ -367,9 +383,10 @@ module _ (t : List ℕ) (L : Linked t) where
       first-order = P₁ .order ∙ ap (pushed placed (low + 1)) sibling-read
 
       pub second-room : ((getD t (2 * getD order low 0) 0 ≡ none → ⊥) → 0 < r₁) × (r₁ ≤ length o₁)
-      second-room =
-          ( (λ d. subst (λ (k : ℕ). 0 < k) (sym first-low) (room₂ (λ e. d (child-read ∙ e))))
-          , subst₂ (λ (k : ℕ) (o : List ℕ). k ≤ length o) (sym first-low) (sym first-order) within₂)
+      second-room = (
+        (λ d. subst (λ (k : ℕ). 0 < k) (sym first-low) (room₂ (λ e. d (child-read ∙ e)))),
+        subst₂ (λ (k : ℕ) (o : List ℕ). k ≤ length o) (sym first-low) (sym first-order) within₂,
+      )
 
       pub visit-pushed : (r₂ : ℕ) (o₂ : List ℕ) → Pushed o₁ r₁ (getD t (2 * getD order low 0) 0) r₂ o₂ → Visiting t o₂ r₂ (count + 1)
       visit-pushed r₂ o₂ P₂ =

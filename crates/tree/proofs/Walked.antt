@@ -1,6 +1,6 @@
 -- Levels and tree order: what is read off the tree of an accepted table is what the level-by-level walk of the table meets. Assumes nothing.
-use mathlib.Core.Path.{_≡_, refl, sym, ap, ap₂, _∙_, subst}
-use mathlib.Core.List.{List, [], _∷_, _++_, append-nil, append-assoc}
+use mathlib.Core.Path.{_≡_, refl, sym, ap, ap₂, _∙_}
+use mathlib.Core.List.{List, [], _∷_, _++_, append-assoc}
 use Prim.Native.Nat.{ℕ, zero, suc, _+_, _≤_, _<_}
 use native.Mathlib.Nat.{not-suc-le-zero}
 use native.Mathlib.Omega.{arith}
@@ -12,7 +12,7 @@ use Rattle.tree.specs.WellFormed.{tableNumber}
 use Rattle.tree.proofs.Counting.{Below, all-left, all-right}
 use Rattle.tree.proofs.Reading.{Agrees}
 use Rattle.tree.proofs.Linked.{read-back}
-use Rattle.tree.proofs.Stands.{Numbers, accepted-agrees, accepted-numbers, accepted-size}
+use Rattle.tree.proofs.Stands.{accepted-agrees, accepted-numbers, accepted-size}
 
 -- ---- one forest behind another, and the forest one level down
 
@@ -95,10 +95,11 @@ unfolding forest
 leads t few nil a b h = tt
 leads t few (node v f g) a b h =
     let left = all-left (λ x. x < nodes t) (preorder f) (preorder g) (b .1) in
-    let right = all-right (λ x. x < nodes t) (preorder f) (preorder g) (b .1) in
-    ( ap (forestFrom (nodes t) t) (a .0) ∙ read-back t few f (a .2) left (nodes t) (omega arith)
-    , leads t few f (a .2) left (omega arith)
-    , leads t few g (a .3) right (omega arith))
+    let right = all-right (λ x. x < nodes t) (preorder f) (preorder g) (b .1) in (
+      ap (forestFrom (nodes t) t) (a .0) ∙ read-back t few f (a .2) left (nodes t) (omega arith),
+      leads t few f (a .2) left (omega arith),
+      leads t few g (a .3) right (omega arith),
+    )
 
 pub accepted-leads : (t : List ℕ) → tableNumber t ≡ 0 → Leads t (treeOf t)
 accepted-leads t e =

@@ -1,7 +1,7 @@
 -- The ordered tree that a table stands for. A forest is a row of siblings: empty, or a node with the forest of its children and
 -- the forest of its further siblings. A tree is a forest of one root.
 use Prim.Native.Nat.{ℕ, zero, suc, _+_}
-use mathlib.Core.Bool.{Bool, true, false, cond}
+use mathlib.Core.Bool.{true, false, cond}
 use mathlib.Core.List.{List, [], _∷_, _++_}
 use lib.Dec.{ltb, eqb}
 use Rattle.tree.specs.Numbers.{upTo, flatMap}

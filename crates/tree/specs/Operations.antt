@@ -1,11 +1,11 @@
 -- What the three operations on tree tables give, for every input.
 use Prim.Native.Nat.{ℕ, zero, suc, _+_, _*_}
 use mathlib.Core.Path.{_≡_}
-use mathlib.Core.Bool.{Bool, _||_}
+use mathlib.Core.Bool.{_||_}
 use mathlib.Core.List.{List, [], _∷_, _++_}
 use lib.Dec.{ltb}
 use lib.ListN.{length}
-use Rattle.refusal.specs.First.{Condition, _⇐_, first}
+use Rattle.refusal.specs.First.{_⇐_, first}
 use Rattle.refusal.specs.Slice.{after}
 use Rattle.tree.specs.Table
 use Rattle.tree.specs.Table.{nodes}

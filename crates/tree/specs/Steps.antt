@@ -1,13 +1,15 @@
 -- What the inner functions of the operations give, in the code's own shape.
-use Prim.Native.Nat.{ℕ, zero, suc, _+_, _-_, _*_, _≤_, _<_}
+use Prim.Native.Nat.{ℕ, _+_, _-_, _*_, _≤_, _<_}
 use mathlib.Core.Path.{_≡_}
-use mathlib.Core.Bool.{Bool, true, false, cond}
-use mathlib.Core.List.{List, [], _∷_, _++_}
+use mathlib.Core.Bool.{Bool, false, cond}
+use mathlib.Core.List.{List, [], _∷_}
 use lib.Dec.{eqb}
-use lib.ListN.{length, getD, take, drop, set}
-use Rattle.tree.specs.Table.{none, nodes, firstChild, nextSibling}
-use Rattle.tree.specs.Forest.{Forest, nil, node, forest, treeOf, size, preorder}
+use lib.ListN.{length, getD, take, set}
+use Rattle.tree.specs.Table.{none, nodes}
+use Rattle.tree.specs.Forest.{treeOf, size, preorder}
+use Rattle.tree.specs.Levels.{childrenOf}
 use Rattle.tree.specs.WellFormed.{badEntry, namedTwice, tableNumber}
+use Rattle.tree.specs.Operations.{renumbered, oldNumbers}
 
 -- ---- table check
 
@@ -36,3 +38,39 @@ pub record Visited (t : List ℕ) (r : ℕ) (orderAfter : List ℕ) : Type 0 whe
 pub record Judged (t : List ℕ) (k : ℕ) (orderAfter : List ℕ) : Type 0 where
   pub number : k ≡ tableNumber t
   pub order : k ≡ 0 → take (nodes t) orderAfter ≡ preorder (treeOf t)
+
+-- ---- mirror
+
+-- the last element of a list, or d where it has none
+abbrev pub lastOr : ℕ → List ℕ → ℕ
+lastOr d [] = d
+lastOr d (x ∷ l) = lastOr x l
+
+-- the last child of node v, or none
+unfoldable pub lastChild : List ℕ → ℕ → ℕ
+lastChild t v = lastOr none (childrenOf t v)
+
+-- where e is a node, its next sibling is x
+abbrev pub pointed : ℕ → ℕ → List ℕ → List ℕ
+pointed e x out = cond (eqb e none) out (set out (2 * e + 1) x)
+
+-- ---- renumber
+
+-- for each new number the old one: at most 1,024, each below a bound, and none twice
+pub record OldNumbers (old : List ℕ) (bound : ℕ) : Type 0 where
+  pub few : length old ≤ 1024
+  pub below : (k : ℕ) → k < length old → getD old k 0 < bound
+  pub apart : (j k : ℕ) → j < length old → k < length old → getD old j 0 ≡ getD old k 0 → j ≡ k
+
+-- for each of these old numbers the new one
+pub record NewNumbers (old new : List ℕ) : Type 0 where
+  pub inverse : (k : ℕ) → k < length old → getD new (getD old k 0) 0 ≡ k
+
+-- an entry in the new numbers: none stays none
+abbrev pub renamed : List ℕ → ℕ → ℕ
+renamed new e = cond (eqb e none) none (getD new e 0)
+
+-- the renumbered table and the map
+pub record Numbered (t outAfter mapAfter : List ℕ) : Type 0 where
+  pub out : outAfter ≡ renumbered t
+  pub map : mapAfter ≡ oldNumbers t

@@ -1,8 +1,6 @@
 -- The tree table: two entries for each node, its first child and then its next sibling. Nodes are numbered from 0, and node 0 is the root.
 use Prim.Native.Nat.{ℕ, _+_, _*_, _/_}
-use mathlib.Core.Bool.{Bool}
 use mathlib.Core.List.{List}
-use lib.Dec.{ltb}
 use lib.ListN.{length, getD}
 
 -- the entry that names no node

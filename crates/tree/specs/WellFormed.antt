@@ -1,5 +1,5 @@
 -- The conditions under which a tree table is refused, in the paper's order. A table is well-formed if none holds.
-use Prim.Native.Nat.{ℕ, _%_}
+use Prim.Native.Nat.{ℕ, _%_, _<_}
 use mathlib.Core.Path.{_≡_}
 use mathlib.Core.Bool.{Bool, false, _||_, _&&_, not}
 use mathlib.Core.List.{List, [], _∷_}
@@ -7,7 +7,7 @@ use lib.Dec.{eqb, ltb}
 use lib.ListN.{length}
 use Rattle.refusal.specs.First.{Condition, _⇐_, first}
 use Rattle.tree.specs.Numbers.{upTo, count, any, member}
-use Rattle.tree.specs.Table.{none, nodes, nextSibling}
+use Rattle.tree.specs.Table.{none, nodes, firstChild, nextSibling}
 use Rattle.tree.specs.Forest.{treeOf, preorder}
 
 -- 1: the length is odd, 0, or above 2,048
@@ -26,7 +26,14 @@ rootHasSibling t = not (eqb (nextSibling t 0) none)
 unfoldable pub namedTwice : List ℕ → Bool
 namedTwice t = any (λ v. ltb 1 (count v t)) (upTo (nodes t)) || ltb 0 (count 0 t)
 
--- 5: some node is not reached from node 0
+-- A node is reached from node 0: it is node 0, or a node that is reached names it as its first child or its next sibling.
+pub data Reached (t : List ℕ) : ℕ → Type 0 where
+  at-root : Reached t 0
+  by-first-child : {v w : ℕ} → Reached t v → firstChild t v ≡ w → w < nodes t → Reached t w
+  by-next-sibling : {v w : ℕ} → Reached t v → nextSibling t v ≡ w → w < nodes t → Reached t w
+
+-- 5: some node is not reached from node 0. The tree read off the table has just the nodes that are reached (`reached-exactly` of
+-- proofs/Reached.antt).
 unfoldable pub notReached : List ℕ → Bool
 notReached t = any (λ v. not (member v (preorder (treeOf t)))) (upTo (nodes t))
 

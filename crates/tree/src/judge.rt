@@ -26,14 +26,20 @@ fn scan(table: &[u16]) -> Found
         let e = table[i] as usize;
         if e != 65535 {
             if n <= e {
-                return Found { bad: true, repeated: false };
+                return Found {
+                    bad: true,
+                    repeated: false,
+                };
             }
             repeats += named[e] as usize;
             named[e] = 1;
         }
         i += 1;
     }
-    Found { bad: false, repeated: repeats != 0 }
+    Found {
+        bad: false,
+        repeated: repeats != 0,
+    }
 }
 
 // Puts an entry that names a node on the stack whose top is at `low`, and says where the top is now.
@@ -63,10 +69,12 @@ fn preorder(table: &[u16], order: &mut [u16]) -> usize
     while low < n {
         let v = order[low];
         let row = 2 * (v as usize);
+        let child = table[row];
+        let sibling = table[row + 1];
         order[count] = v;
         count += 1;
-        low = push(order, low + 1, table[row + 1]);
-        low = push(order, low, table[row]);
+        low = push(order, low + 1, sibling);
+        low = push(order, low, child);
     }
     count
 }

@@ -2,6 +2,8 @@
 ghost use Rattle.tree.specs.Operations.{CheckTable, Mirror, Renumber};
 
 mod judge;
+mod relink;
+mod turn;
 
 pub struct Checked {
     pub number: u16,
@@ -17,5 +19,43 @@ pub fn check_table(table: &[u16]) -> Checked
     if number != 0 {
         return Checked { number, nodes: 0 };
     }
-    Checked { number: 0, nodes: (table.len() / 2) as u16 }
+    Checked {
+        number: 0,
+        nodes: (table.len() / 2) as u16,
+    }
+}
+
+// The table with every node's children in reverse order, numbers kept.
+pub fn mirror(table: &[u16], out: &mut [u16]) -> u16
+    ensures { λ r. ⌜ Mirror (now (table .entry)) (now (out .entry)) r (now (out .exit)) ⌝ }
+{
+    let mut order = [0u16; 1024];
+    let number = judge::judge(table, &mut order);
+    if number != 0 {
+        return number;
+    }
+    let entries = table.len();
+    if out.len() < entries {
+        return 7;
+    }
+    turn::turn(table, &mut out[..entries]);
+    0
+}
+
+// The tree numbered parent first, then the children's subtrees left to right, and in `map` for each new number the old one.
+pub fn renumber(table: &[u16], out: &mut [u16], map: &mut [u16]) -> u16
+    ensures { λ r. ⌜ Renumber (now (table .entry)) (now (out .entry)) (now (map .entry)) r (now (out .exit)) (now (map .exit)) ⌝ }
+{
+    let mut order = [0u16; 1024];
+    let number = judge::judge(table, &mut order);
+    if number != 0 {
+        return number;
+    }
+    let entries = table.len();
+    let n = entries / 2;
+    if out.len() < entries || map.len() < n {
+        return 7;
+    }
+    relink::relink(table, &order[..n], &mut out[..entries], &mut map[..n]);
+    0
 }

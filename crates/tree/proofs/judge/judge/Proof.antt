@@ -3,121 +3,136 @@ use mathlib.Core.Path.{_≡_, sym, ap, _∙_}
 use mathlib.Core.Logic.{inl, inr, ⊎-elim}
 use mathlib.Core.Bool.{false, true}
 use mathlib.Core.List.{List, _++_}
-use Prim.Native.Nat.{ℕ, _≤_, _<_, _/_}
+use Prim.Native.Nat.{ℕ, suc, _≤_}
 use native.Mathlib.Omega.{arith}
-use lib.ListN.{length, take, drop, getD}
+use lib.ListN.{length, take, getD}
 use lib.Seq.{length-take-le, take-at, take-all}
 use borrow.Author.Needs.{needs}
 use borrow.Author.Tests.{eqb-true, eqb-false, ltb-true, ltb-false}
-use Rattle.tree.specs.Table.{none, nodes}
-use Rattle.tree.specs.Forest.{treeOf, size, preorder}
-use Rattle.tree.specs.WellFormed.{badLength, rootHasSibling, Passed, tableNumber}
+use Rattle.tree.specs.Table.{none, nodes, nextSibling}
+use Rattle.tree.specs.Forest.{treeOf, preorder}
+use Rattle.tree.specs.WellFormed.{badLength, badEntry, rootHasSibling, Passed, tableNumber}
 use Rattle.tree.specs.Steps.{Visited, Judged}
 use Rattle.tree.proofs.Tests.{true-or-false}
 use Rattle.tree.proofs.Scan.{getD-any}
-use Rattle.tree.proofs.Linked.{Linked, tree-size}
+use Rattle.tree.proofs.Linked.{tree-size}
 use Rattle.tree.proofs.Accepted.{good-length, length-good, alone-root, root-alone, linked}
 use Rattle.tree.proofs.Number.{length-bad, number-1, number-2, number-3, number-4, number-5, number-0}
 use Rattle.tree.proofs.judge.judge.Statement.{statement}
 use Rattle.tree.proofs.judge.judge.Tie as tie
 
--- past the test of the length
-length-ok : (c : tie.Else3) → badLength (c .before .before .before .before .before .args .table .now) ≡ false
-length-ok c =
-    let odd = c .before .before .if1 .left in
-    let empty = eqb-false (length (c .before .before .before .before .before .args .table .now)) 0 (c .before .if2 .left) in
-    let long = ltb-false 2048 (length (c .before .before .before .before .before .args .table .now)) (c .if3 .left) in
-    length-good (c .before .before .before .before .before .args .table .now) (omega arith, omega arith, omega arith)
+-- past the tests of the length
+module _ (c : tie.Else3) where
+  abbrev start : tie.Start
+  start = c .before .before .before .before .before
 
--- past the tests of conditions 2 to 4
-passed : (c : tie.Else6) → Passed (c .before .before .before .before .before .before .before .before .before .before .args .table .now)
-passed c =
-    let t = c .before .before .before .before .before .before .before .before .before .before .args .table .now in
-    let scanned = c .before .before .before .before .scan .ensures in
-    let good = c .before .before .before .if4 .left in
-    let ok = length-ok (c .before .before .before .before .before) in
-    record {
-      size = ok;
-      entries = sym (scanned .bad) ∙ good;
-      root = alone-root t (sym (getD-any t 1 0 none (omega (arith, good-length t ok))) ∙ c .before .if5 .left);
-      named = sym (scanned .repeated good) ∙ c .if6 .left
-    }
+  abbrev table : List ℕ
+  table = start .args .table .now
+
+  length-ok : badLength table ≡ false
+  length-ok =
+      let odd = c .before .before .if1 .left in
+      let empty = eqb-false (length table) 0 (c .before .if2 .left) in
+      let long = ltb-false 2048 (length table) (c .if3 .left) in
+      length-good table (omega arith, omega arith, omega arith)
+
+  second-read : getD table 1 0 ≡ nextSibling table 0
+  second-read = getD-any table 1 0 none (omega (arith, good-length table length-ok))
+
+-- past the test of the entries
+module _ (c : tie.Else4) where
+  abbrev sized : tie.Else3
+  sized = c .before .before
+
+  entries-ok : badEntry (table sized) ≡ false
+  entries-ok = sym (c .before .scan .ensures .bad) ∙ c .if4 .left
+
+-- past the test of the root
+module _ (c : tie.Else5) where
+  abbrev filled : tie.Else4
+  filled = c .before .before
+
+  root-ok : rootHasSibling (table (sized filled)) ≡ false
+  root-ok = alone-root (table (sized filled)) (sym (second-read (sized filled)) ∙ c .if5 .left)
+
+-- past the test of the names
+module _ (c : tie.Else6) where
+  abbrev rooted : tie.Else5
+  rooted = c .before
+
+  abbrev first : tie.Else3
+  first = sized (filled rooted)
+
+  passed : Passed (table first)
+  passed =
+      record {
+        size = length-ok first;
+        entries = entries-ok (filled rooted);
+        root = root-ok rooted;
+        named = sym (filled rooted .before .scan .ensures .repeated (filled rooted .if4 .left)) ∙ c .if6 .left;
+      }
+
+  -- the part of the order that is lent has as many entries as there are nodes
+  room : nodes (table first) ≤ length (start first .args .order .now)
+  room = omega (arith, linked (table first) passed .few, start first .pre)
+
+-- a refusal promises nothing of the order
+refused : (t : List ℕ) (k : ℕ) (order : List ℕ) → tableNumber t ≡ suc k → Judged t (suc k) order
+refused t k order e = record { number = sym e; order = λ z. absurd (omega (arith, z)) }
 
 returns : tie.Need-returns
 returns c =
     let t = c .before .before .before .args .table .now in
-    let bad = length-bad t (⊎-elim (λ w. inl (w .taken))
-        (⊎-elim (λ w. inr (inl (eqb-true (length t) 0 (w .1 .taken)))) (λ w. inr (inr (ltb-true 2048 (length t) (w .2 .taken)))))
-        (c .if1 .came)) in
-    record { number = sym (number-1 t bad); order = λ e. absurd (omega arith) }
+    refused t 0 _ (number-1 t (length-bad t (⊎-elim (λ w. inl (w .taken))
+    (⊎-elim (λ w. inr (inl (eqb-true (length t) 0 (w .1 .taken)))) (λ w. inr (inr (ltb-true 2048 (length t) (w .2 .taken)))))
+    (c .if1 .came))))
 
 scan-requires : tie.Need-scan-requires
 scan-requires c κs = length-ok c
 
 returns-2 : tie.Need-returns-2
 returns-2 c =
-    let t = c .before .before .before .before .before .before .before .args .table .now in
-    record {
-      number = sym (number-2 t (length-ok (c .before .before)) (sym (c .before .scan .ensures .bad) ∙ c .if4 .taken));
-      order = λ e. absurd (omega arith)
-    }
+    let p = c .before .before in
+    refused (table p) 1 _ (number-2 (table p) (length-ok p) (sym (c .before .scan .ensures .bad) ∙ c .if4 .taken))
 
 shared-slice-read-if5 : tie.Need-shared-slice-read-if5
 shared-slice-read-if5 c =
-    omega (arith, good-length (c .before .before .before .before .before .before .before .before .args .table .now) (length-ok (c .before .before .before)))
+    let p = sized (c .before) in
+    omega (arith, good-length (table p) (length-ok p))
 
 returns-3 : tie.Need-returns-3
 returns-3 c =
-    let t = c .before .before .before .before .before .before .before .before .before .args .table .now in
-    let ok = length-ok (c .before .before .before .before) in
-    let root : rootHasSibling t ≡ true =
-        ⊎-elim (λ e. e)
-        (λ e. absurd (c .if5 .taken (getD-any t 1 0 none (omega (arith, good-length t ok)) ∙ root-alone t e)))
-        (true-or-false (rootHasSibling t)) in
-    record {
-      number = sym (number-3 t ok (sym (c .before .before .before .scan .ensures .bad) ∙ c .before .before .if4 .left) root);
-      order = λ e. absurd (omega arith)
-    }
+    let q = c .before .before in
+    let p = sized q in
+    let root : rootHasSibling (table p) ≡ true =
+    ⊎-elim (λ e. e) (λ e. absurd (c .if5 .taken (second-read p ∙ root-alone (table p) e))) (true-or-false (rootHasSibling (table p))) in
+    refused (table p) 2 _ (number-3 (table p) (length-ok p) (entries-ok q) root)
 
 returns-4 : tie.Need-returns-4
 returns-4 c =
-    let t = c .before .before .before .before .before .before .before .before .before .before .args .table .now in
-    let ok = length-ok (c .before .before .before .before .before) in
-    let scanned = c .before .before .before .before .scan .ensures in
-    let good = c .before .before .before .if4 .left in
-    record {
-      number = sym (number-4 t ok (sym (scanned .bad) ∙ good)
-          (alone-root t (sym (getD-any t 1 0 none (omega (arith, good-length t ok))) ∙ c .before .if5 .left))
-          (sym (scanned .repeated good) ∙ c .if6 .taken));
-      order = λ e. absurd (omega arith)
-    }
-
--- the part of the order that is lent has as many entries as there are nodes
-few : (c : tie.Else6) → nodes (c .before .before .before .before .before .before .before .before .before .before .args .table .now)
-    ≤ length (c .before .before .before .before .before .before .before .before .before .before .args .order .now)
-few c =
-    omega (arith, linked (c .before .before .before .before .before .before .before .before .before .before .args .table .now) (passed c) .few
-    , c .before .before .before .before .before .before .before .before .before .before .pre)
+    let r = c .before in
+    let q = filled r in
+    let p = sized q in
+    refused (table p) 3 _ (number-4 (table p) (length-ok p) (entries-ok q) (root-ok r)
+    (sym (q .before .scan .ensures .repeated (q .if4 .left)) ∙ c .if6 .taken))
 
 slice-relend-prefix-preorder : tie.Need-slice-relend-prefix-preorder
-slice-relend-prefix-preorder c = few c
+slice-relend-prefix-preorder c = room c
 
 slice-aggregate-preorder : tie.Need-slice-aggregate-preorder
-slice-aggregate-preorder c = sym (length-take-le _ _ (few (c .before)))
+slice-aggregate-preorder c = sym (length-take-le _ _ (room (c .before)))
 
 preorder-requires : tie.Need-preorder-requires
-preorder-requires c κs = (passed (c .before), length-take-le _ _ (few (c .before)))
+preorder-requires c κs = (passed (c .before), length-take-le _ _ (room (c .before)))
 
 same-length : tie.Need-same-length
 same-length c = search needs
 
 returns-5 : tie.Need-returns-5
 returns-5 c =
-    let t = c .before .before .before .before .before .before .before .before .before .before .before .before .before .before .before .args .table .now in
-    record {
-      number = sym (number-5 t (passed (c .before .before .before .before .before)) (omega (arith, c .before .before .before .preorder .ensures .reached, c .if7 .taken)));
-      order = λ e. absurd (omega arith)
-    }
+    let visited = c .before .before .before in
+    let p = visited .before .before in
+    refused (table (first p)) 4 _ (number-5 (table (first p)) (passed p) (omega (arith, visited .preorder .ensures .reached, c .if7 .taken)))
 
 same-length-2 : tie.Need-same-length-2
 same-length-2 c = search needs
@@ -128,14 +143,15 @@ in-front t seen rest n r v e l = take-at seen rest n l ∙ sym (take-all n seen 
 
 returns-6 : tie.Need-returns-6
 returns-6 c =
-    let t = c .before .before .before .before .before .before .before .before .before .before .before .before .before .before .before .args .table .now in
-    let p = passed (c .before .before .before .before .before) in
-    let v = c .before .before .before .preorder .ensures in
-    let all : c .before .before .before .preorder .result ≡ nodes t = omega (arith, v .reached, tree-size t (linked t p), c .if7 .left) in
+    let visited = c .before .before .before in
+    let p = visited .before .before in
+    let t = table (first p) in
+    let v = visited .preorder .ensures in
+    let all : visited .preorder .result ≡ nodes t = omega (arith, v .reached, tree-size t (linked t (passed p)), c .if7 .left) in
     record {
-      number = sym (number-0 t p (sym (v .reached) ∙ all));
-      order = λ e. in-front t (c .before .before .before .preorder .last .1 .0) _ (nodes t) (c .before .before .before .preorder .result) v all
-          (c .before .before .before .preorder .kept .1 .0 ∙ length-take-le _ _ (few (c .before .before .before .before .before)))
+      number = sym (number-0 t (passed p) (sym (v .reached) ∙ all));
+      order = λ e. in-front t (visited .preorder .last .1 .0) _ (nodes t) (visited .preorder .result) v all
+          (visited .preorder .kept .1 .0 ∙ length-take-le _ _ (room p));
     }
 
 pub judge-spec : {M : Type 1} → statement M

@@ -1,20 +1,17 @@
-use Prim.Native.Nat.{ℕ, _+_, _-_, _≤_}
-use mathlib.Core.Path.{_≡_, sym, subst₂}
-use mathlib.Core.Bool.{false}
-use mathlib.Core.List.{List}
-use Rattle.tree.specs.Table.{nodes}
-use Rattle.tree.specs.WellFormed.{badLength}
+-- `tree::judge::scan` meets its contract: each turn takes one entry. Assumes nothing.
+use mathlib.Core.Path.{sym, subst₂}
 use mathlib.Core.Logic.{⊎-elim}
-use borrow.Author.Needs.{needs}
+use mathlib.Core.List.{List}
+use Prim.Native.Nat.{ℕ, _+_, _-_, _≤_}
 use native.Mathlib.Omega.{arith}
 use lib.ListN.{length, getD}
+use borrow.Author.Needs.{needs}
+use Rattle.tree.specs.Table.{nodes}
 use Rattle.tree.proofs.Accepted.{good-length}
 use Rattle.tree.proofs.Tests.{true-false}
 use Rattle.tree.proofs.Scan.{Scanning, scan-start, scan-skip, scan-mark, scan-bad, scan-good, scan-repeated}
 use Rattle.tree.proofs.judge.scan.Statement.{statement}
 use Rattle.tree.proofs.judge.scan.Tie as tie
-use Rattle.tree.proofs.judge.scan.Reads as reads
-use Rattle.tree.proofs.judge.scan.Lts as lts
 
 abbrev Inv-loop : tie.InvT-loop
 Inv-loop table n named₀ repeats₀ i₀ named repeats i = Scanning table named repeats i
@@ -22,11 +19,19 @@ Inv-loop table n named₀ repeats₀ i₀ named repeats i = Scanning table named
 abbrev μ-loop : tie.MeasureT-loop
 μ-loop table n named₀ repeats₀ i₀ named repeats i = length table - i
 
+-- at the function's start
+module _ (s : tie.Start Inv-loop μ-loop) where
+  abbrev table : List ℕ
+  table = s .args .table .now
+
+  few : nodes table ≤ 1024
+  few = omega (arith, good-length table (s .pre) .2)
+
 array-write-named : tie.Need-array-write-named Inv-loop μ-loop
 array-write-named c = omega arith
 
 loop-holds : tie.Need-loop-holds Inv-loop μ-loop
-loop-holds c = scan-start (c .args .table .now) (c .pre)
+loop-holds c = scan-start (table c) (c .pre)
 
 mul-e : tie.Need-mul-e Inv-loop μ-loop
 mul-e c = search needs
@@ -38,19 +43,35 @@ cast-e : tie.Need-cast-e Inv-loop μ-loop
 cast-e c = omega (arith, c .shared-slice-known .given (c .before .before .loop .i))
 
 returns : tie.Need-returns Inv-loop μ-loop
-returns c = record { bad = scan-bad (c .before .before .before .before .before .args .table .now) (c .before .before .before .before .loop .i) (c .before .before .before .loop-test .taken) (c .before .if1 .taken) (c .if2 .taken); repeated = λ e. absurd (true-false e) }
+returns c =
+    let p = c .before .before .before in
+    record {
+      bad = scan-bad (table (p .before .before)) (p .before .loop .i) (p .loop-test .taken) (c .before .if1 .taken) (c .if2 .taken);
+      repeated = λ e. absurd (true-false e);
+    }
+
+-- past the test that the entry names a node
+module _ (c : tie.Else2 Inv-loop μ-loop) where
+  abbrev turn : tie.In-loop Inv-loop μ-loop
+  turn = c .before .before .before
+
+  abbrev start : tie.Start Inv-loop μ-loop
+  start = turn .before .before
+
+  abbrev entry : ℕ
+  entry = getD (table start) (turn .before .loop .i) 0
 
 array-read-repeats : tie.Need-array-read-repeats Inv-loop μ-loop
-array-read-repeats c = omega (arith, good-length (c .before .before .before .before .before .args .table .now) (c .before .before .before .before .before .pre))
+array-read-repeats c = omega (arith, few (start c))
 
 cast-repeats : tie.Need-cast-repeats Inv-loop μ-loop
-cast-repeats c = omega (arith, c .before .before .before .before .loop .inv .marks (getD (c .before .before .before .before .before .args .table .now) (c .before .before .before .before .loop .i) 0) (c .if2 .left))
+cast-repeats c = omega (arith, turn c .before .loop .inv .marks (entry c) (c .if2 .left))
 
 add-repeats : tie.Need-add-repeats Inv-loop μ-loop
-add-repeats c = omega (arith, c .before .before .before .before .loop .inv .marks (getD (c .before .before .before .before .before .args .table .now) (c .before .before .before .before .loop .i) 0) (c .if2 .left))
+add-repeats c = omega (arith, turn c .before .loop .inv .marks (entry c) (c .if2 .left))
 
 array-write-named-2 : tie.Need-array-write-named-2 Inv-loop μ-loop
-array-write-named-2 c = omega (arith, good-length (c .before .before .before .before .before .args .table .now) (c .before .before .before .before .before .pre))
+array-write-named-2 c = omega (arith, few (start c))
 
 add-i : tie.Need-add-i Inv-loop μ-loop
 add-i c = search needs
@@ -58,23 +79,27 @@ add-i c = search needs
 loop-less : tie.Need-loop-less Inv-loop μ-loop
 loop-less c = omega arith
 
-few : (t : List ℕ) → badLength t ≡ false → nodes t ≤ 1024
-few t ok = omega (arith, good-length t ok .2)
-
 loop-again : tie.Need-loop-again Inv-loop μ-loop
-loop-again c = ⊎-elim
-    (λ w. subst₂ (λ (l : List ℕ) (r : ℕ). Scanning (c .before .before .before .before .args .table .now) l r (c .before .before .before .loop .i + 1)) (sym (w .2)) (sym (w .3))
-        (scan-mark (c .before .before .before .before .args .table .now) (c .before .before .before .loop .named) (c .before .before .before .loop .repeats)
-        (c .before .before .before .loop .i) (c .before .before .before .loop .inv) (c .before .before .loop-test .taken) (w .1 .left)
-        (few (c .before .before .before .before .args .table .now) (c .before .before .before .before .pre))))
-    (λ w. subst₂ (λ (l : List ℕ) (r : ℕ). Scanning (c .before .before .before .before .args .table .now) l r (c .before .before .before .loop .i + 1)) (sym (w .1)) (sym (w .2))
-        (scan-skip (c .before .before .before .before .args .table .now) (c .before .before .before .loop .named) (c .before .before .before .loop .repeats)
-        (c .before .before .before .loop .i) (c .before .before .before .loop .inv) (c .before .before .loop-test .taken) (w .0 .left)
-        (few (c .before .before .before .before .args .table .now) (c .before .before .before .before .pre))))
+loop-again c =
+    let p = c .before .before .before in
+    let s = p .before in
+    let i = p .loop .i in
+    let inside = c .before .before .loop-test .taken in
+    ⊎-elim
+    (λ w. subst₂ (λ (l : List ℕ) (r : ℕ). Scanning (table s) l r (i + 1)) (sym (w .2)) (sym (w .3))
+    (scan-mark (table s) (p .loop .named) (p .loop .repeats) i (p .loop .inv) inside (w .1 .left) (few s)))
+    (λ w. subst₂ (λ (l : List ℕ) (r : ℕ). Scanning (table s) l r (i + 1)) (sym (w .1)) (sym (w .2))
+    (scan-skip (table s) (p .loop .named) (p .loop .repeats) i (p .loop .inv) inside (w .0 .left) (few s)))
     (c .if1 .came)
 
 returns-2 : tie.Need-returns-2 Inv-loop μ-loop
-returns-2 c = record { bad = scan-good (c .before .before .args .table .now) (c .before .loop .named) (c .before .loop .repeats) (c .before .loop .i) (c .before .before .pre) (c .before .loop .inv) (c .loop-test .left); repeated = λ e. scan-repeated (c .before .before .args .table .now) (c .before .loop .named) (c .before .loop .repeats) (c .before .loop .i) (c .before .before .pre) (c .before .loop .inv) (c .loop-test .left) }
+returns-2 c =
+    let s = c .before .before in
+    let p = c .before .loop in
+    record {
+      bad = scan-good (table s) (p .named) (p .repeats) (p .i) (s .pre) (p .inv) (c .loop-test .left);
+      repeated = λ e. scan-repeated (table s) (p .named) (p .repeats) (p .i) (s .pre) (p .inv) (c .loop-test .left);
+    }
 
 pub scan-spec : {M : Type 1} → statement M
 scan-spec =
