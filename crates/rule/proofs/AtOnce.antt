@@ -103,7 +103,7 @@ module _ (D : ℕ) (row : Drawing) (v : ℕ) (below : Drawing) (R : Row D (width
   child-contour T l ws e =
       ap (λ (ys : List (List Dot)). drop l (leftContour ys)) (alone-shift (width row) v (start D row v) T below)
       ∙ ap (drop l) (contour-shift (pos T) (dots (width row) (pos 0) (alone v (start D row v) below))
-          (alone-child D (width row) (width below) v (start D row v) below B .some))
+      (alone-child D (width row) (width below) v (start D row v) below B .some))
       ∙ map-drop (shiftBy (pos T)) l (newContour D row v below)
       ∙ ap (map (shiftBy (pos T))) e
 
@@ -112,16 +112,16 @@ module _ (D : ℕ) (row : Drawing) (v : ℕ) (below : Drawing) (R : Row D (width
   ended-row zero l ps e = refl
   ended-row (suc k) l ps e =
       ap (λ (us : List Dot). walkDown D k (suc l) (width row) v below
-          (step D (width row) (after ps) us (drop l (leftContour (dots (width row) (pos 0) (alone v (start D row v + total ps) below))))))
-        (row-contour ps l [] e)
+      (step D (width row) (after ps) us (drop l (leftContour (dots (width row) (pos 0) (alone v (start D row v + total ps) below))))))
+      (row-contour ps l [] e)
       ∙ ended-row k (suc l) ps (none-drop l (rowContour row) e)
 
   ended-child : (k l : ℕ) (ps : List Meeting) → drop l (newContour D row v below) ≡ [] → walkDown D k l (width row) v below (after ps) ≡ after ps
   ended-child zero l ps e = refl
   ended-child (suc k) l ps e =
       ap (λ (ws : List Dot). walkDown D k (suc l) (width row) v below
-          (step D (width row) (after ps) (drop l (rowContour (spread (width row) ps 0 row))) ws))
-        (child-contour (total ps) l [] e)
+      (step D (width row) (after ps) (drop l (rowContour (spread (width row) ps 0 row))) ws))
+      (child-contour (total ps) l [] e)
       ∙ ap (walkDown D k (suc l) (width row) v below) (no-step (after ps) (drop l (rowContour (spread (width row) ps 0 row))))
       ∙ ended-child k (suc l) ps (none-drop l (newContour D row v below) e)
     where
@@ -138,21 +138,24 @@ module _ (D : ℕ) (row : Drawing) (v : ℕ) (below : Drawing) (R : Row D (width
   walk-meet zero l c ps (a ∷ us) (b ∷ ws) eu ew h d q = absurd (not-suc-le-zero h)
   walk-meet (suc k) l c ps (a ∷ us) (b ∷ ws) eu ew h d q =
       ap₂ (λ (x y : List Dot). walkDown D k (suc l) (width row) v below (step D (width row) (after ps) x y))
-        (row-contour ps l (a ∷ us) eu ∙ unmoved (shares (width row) ps) c (a ∷ us) d q)
-        (child-contour (total ps) l (b ∷ ws) ew)
+      (row-contour ps l (a ∷ us) eu ∙ unmoved (shares (width row) ps) c (a ∷ us) d q)
+      (child-contour (total ps) l (b ∷ ws) ew)
       ∙ ap (walkDown D k (suc l) (width row) v below) moved
       ∙ walk-meet k (suc l) (a .child) (ps ++ (m ∷ [])) us ws (tail-drop l (rowContour row) a us eu) (tail-drop l (newContour D row v below) b ws ew)
-        (omega arith) (d .1) quiet
+      (omega arith) (d .1) quiet
       ∙ ap after (ap (λ (T : ℕ). ps ++ (m ∷ []) ++ meet D T us ws) grown ∙ append-assoc ps (m ∷ []) (meet D (total ps + m .amount) us ws))
     where
       m : Meeting
       m = record { child = a .child; amount = shortfall (needed D (a .node) (b .node)) (a .place) (b .place +ℤ pos (total ps)) }
+
       grown : total (ps ++ (m ∷ [])) ≡ total ps + m .amount
       grown = omega (arith, total-append ps (m ∷ []))
+
       moved : step D (width row) (after ps) (a ∷ us) (shiftBy (pos (total ps)) b ∷ map (shiftBy (pos (total ps))) ws) ≡ after (ps ++ (m ∷ []))
       moved =
           let further : start D row v + total ps + m .amount ≡ start D row v + total (ps ++ (m ∷ [])) = omega (arith, grown) in
           ap₂ (λ (r : Drawing) (x : ℕ). record { row = r; place = x }) (spread-spread (width row) ps (m ∷ []) 0 row) further
+
       quiet : (p : ℕ) → p ≤ a .child → shares (width row) (ps ++ (m ∷ [])) p ≡ 0
       quiet p g = omega (arith, shares-append (width row) ps (m ∷ []) p, q p (le-trans g (d .0)), share-none (width row) m p g)
 
@@ -161,9 +164,9 @@ module _ (D : ℕ) (row : Drawing) (v : ℕ) (below : Drawing) (R : Row D (width
   join-at-once =
       ap (λ (s : Joining). append (s .row) (alone v (s .place) below))
       (ap₂ (λ (r : Drawing) (x : ℕ). walkDown D (length (rowContour row)) 0 (width row) v below (record { row = r; place = x }))
-          (sym (spread-none (width row) 0 row)) (sym (add-zero (start D row v)))
-        ∙ walk-meet (length (rowContour row)) 0 (width row) [] (rowContour row) (newContour D row v below) refl refl (le-refl _)
-          (descending (width row) (rowDots 0 row) (R .falling)) (λ p h. refl))
+      (sym (spread-none (width row) 0 row)) (sym (add-zero (start D row v)))
+      ∙ walk-meet (length (rowContour row)) 0 (width row) [] (rowContour row) (newContour D row v below) refl refl (le-refl _)
+      (descending (width row) (rowDots 0 row) (R .falling)) (λ p h. refl))
 
 -- and so are the drawings
 draw-onto : (D : ℕ) (row : Drawing) (f : Forest) → Row D (width row) (rowDots 0 row) → drawOntoAtOnce D row f ≡ drawOnto D row f

@@ -12,9 +12,9 @@ use Rattle.tree.specs.Table.{none, nodes}
 use Rattle.tree.specs.Forest.{forest, treeOf}
 use Rattle.tree.specs.Levels.{Pair, level, levelCount, neighbours}
 use Rattle.tree.specs.WellFormed.{badLength, badEntry, rootHasSibling, namedTwice, notReached, tableConditions}
-use Rattle.tree.specs.Operations.{unlessRefused}
+use Rattle.refusal.specs.After.{granted}
 use Rattle.rule.specs.Rule.{drawn, recorded}
-use Rattle.rule.specs.Result.{place, placesOf, levelsOf, leastOf, greatestOf, Slices, badSeparation, shortResults, shortWork, layoutNumber, signedUnlessRefused}
+use Rattle.rule.specs.Result.{place, placesOf, levelsOf, leastOf, greatestOf, Slices, badSeparation, shortResults, shortWork, layoutNumber}
 
 pub record Sheet : Type 0 where
   pub table : List ℕ
@@ -48,14 +48,14 @@ outcome s =
     let k = layoutNumber t D (enough (Table.nodes t)) in
     record {
       number = k;
-      nodes = unlessRefused k (Table.nodes t);
-      levelCount = unlessRefused k (Levels.levelCount t);
-      least = signedUnlessRefused k (leastOf (placesOf D t));
-      greatest = signedUnlessRefused k (greatestOf (placesOf D t));
-      pairs = unlessRefused k (length (recorded D t));
+      nodes = granted k (Table.nodes t) 0;
+      levelCount = granted k (Levels.levelCount t) 0;
+      least = granted k (leastOf (placesOf D t)) (pos 0);
+      greatest = granted k (greatestOf (placesOf D t)) (pos 0);
+      pairs = granted k (length (recorded D t)) 0;
       places = listed k (placesOf D t);
       levels = listed k (levelsOf t);
-      neighbours = listed k (Levels.neighbours t)
+      neighbours = listed k (Levels.neighbours t);
     }
 
 sheet : List ℕ → ℕ → Sheet
@@ -76,7 +76,7 @@ drawing n levels least greatest places nodeLevels neighbours =
       pairs = length neighbours;
       places = places;
       levels = nodeLevels;
-      neighbours = neighbours
+      neighbours = neighbours;
     }
 
 -- a leaf with a further sibling, and a last leaf
@@ -119,33 +119,33 @@ pub expected : List Outcome
 unfolding drawing refused minus
 expected =
     drawing 1 1 (pos 0) (pos 0)
-      (pos 0 ∷ [])
-      (0 ∷ [])
-      ([])
+    (pos 0 ∷ [])
+    (0 ∷ [])
+    ([])
     ∷ drawing 3 3 (pos 0) (pos 0)
-      (pos 0 ∷ pos 0 ∷ pos 0 ∷ [])
-      (0 ∷ 1 ∷ 2 ∷ [])
-      ([])
+    (pos 0 ∷ pos 0 ∷ pos 0 ∷ [])
+    (0 ∷ 1 ∷ 2 ∷ [])
+    ([])
     ∷ drawing 3 2 (minus 5) (pos 5)
-      (pos 0 ∷ minus 5 ∷ pos 5 ∷ [])
-      (0 ∷ 1 ∷ 1 ∷ [])
-      ((1, 2) ∷ [])
+    (pos 0 ∷ minus 5 ∷ pos 5 ∷ [])
+    (0 ∷ 1 ∷ 1 ∷ [])
+    ((1, 2) ∷ [])
     ∷ drawing 3 2 (minus 1) (pos 2)
-      (pos 0 ∷ minus 1 ∷ pos 2 ∷ [])
-      (0 ∷ 1 ∷ 1 ∷ [])
-      ((1, 2) ∷ [])
+    (pos 0 ∷ minus 1 ∷ pos 2 ∷ [])
+    (0 ∷ 1 ∷ 1 ∷ [])
+    ((1, 2) ∷ [])
     ∷ drawing 4 2 (minus 1) (pos 1)
-      (pos 0 ∷ minus 1 ∷ pos 0 ∷ pos 1 ∷ [])
-      (0 ∷ 1 ∷ 1 ∷ 1 ∷ [])
-      ((1, 2) ∷ (2, 3) ∷ [])
+    (pos 0 ∷ minus 1 ∷ pos 0 ∷ pos 1 ∷ [])
+    (0 ∷ 1 ∷ 1 ∷ 1 ∷ [])
+    ((1, 2) ∷ (2, 3) ∷ [])
     ∷ drawing 15 3 (minus 18) (pos 18)
-      (pos 0 ∷ minus 10 ∷ minus 18 ∷ minus 14 ∷ minus 10 ∷ minus 6 ∷ minus 2 ∷ minus 4 ∷ pos 2 ∷ pos 10 ∷ pos 2 ∷ pos 6 ∷ pos 10 ∷ pos 14 ∷ pos 18 ∷ [])
-      (0 ∷ 1 ∷ 2 ∷ 2 ∷ 2 ∷ 2 ∷ 2 ∷ 1 ∷ 1 ∷ 1 ∷ 2 ∷ 2 ∷ 2 ∷ 2 ∷ 2 ∷ [])
-      ((1, 7) ∷ (7, 8) ∷ (8, 9) ∷ (2, 3) ∷ (3, 4) ∷ (4, 5) ∷ (5, 6) ∷ (6, 10) ∷ (10, 11) ∷ (11, 12) ∷ (12, 13) ∷ (13, 14) ∷ [])
+    (pos 0 ∷ minus 10 ∷ minus 18 ∷ minus 14 ∷ minus 10 ∷ minus 6 ∷ minus 2 ∷ minus 4 ∷ pos 2 ∷ pos 10 ∷ pos 2 ∷ pos 6 ∷ pos 10 ∷ pos 14 ∷ pos 18 ∷ [])
+    (0 ∷ 1 ∷ 2 ∷ 2 ∷ 2 ∷ 2 ∷ 2 ∷ 1 ∷ 1 ∷ 1 ∷ 2 ∷ 2 ∷ 2 ∷ 2 ∷ 2 ∷ [])
+    ((1, 7) ∷ (7, 8) ∷ (8, 9) ∷ (2, 3) ∷ (3, 4) ∷ (4, 5) ∷ (5, 6) ∷ (6, 10) ∷ (10, 11) ∷ (11, 12) ∷ (12, 13) ∷ (13, 14) ∷ [])
     ∷ drawing 23 4 (minus 12) (pos 10)
-      (pos 0 ∷ minus 6 ∷ minus 6 ∷ minus 12 ∷ minus 10 ∷ minus 8 ∷ minus 6 ∷ minus 4 ∷ minus 2 ∷ pos 0 ∷ minus 1 ∷ minus 3 ∷ minus 1 ∷ pos 1 ∷ pos 6 ∷ pos 4 ∷ pos 6 ∷ pos 2 ∷ pos 4 ∷ pos 6 ∷ pos 8 ∷ pos 10 ∷ pos 8 ∷ [])
-      (0 ∷ 1 ∷ 2 ∷ 3 ∷ 3 ∷ 3 ∷ 3 ∷ 3 ∷ 3 ∷ 3 ∷ 1 ∷ 2 ∷ 2 ∷ 2 ∷ 1 ∷ 2 ∷ 2 ∷ 3 ∷ 3 ∷ 3 ∷ 3 ∷ 3 ∷ 2 ∷ [])
-      ((1, 10) ∷ (10, 14) ∷ (2, 11) ∷ (11, 12) ∷ (12, 13) ∷ (13, 15) ∷ (15, 16) ∷ (16, 22) ∷ (3, 4) ∷ (4, 5) ∷ (5, 6) ∷ (6, 7) ∷ (7, 8) ∷ (8, 9) ∷ (9, 17) ∷ (17, 18) ∷ (18, 19) ∷ (19, 20) ∷ (20, 21) ∷ [])
+    (pos 0 ∷ minus 6 ∷ minus 6 ∷ minus 12 ∷ minus 10 ∷ minus 8 ∷ minus 6 ∷ minus 4 ∷ minus 2 ∷ pos 0 ∷ minus 1 ∷ minus 3 ∷ minus 1 ∷ pos 1 ∷ pos 6 ∷ pos 4 ∷ pos 6 ∷ pos 2 ∷ pos 4 ∷ pos 6 ∷ pos 8 ∷ pos 10 ∷ pos 8 ∷ [])
+    (0 ∷ 1 ∷ 2 ∷ 3 ∷ 3 ∷ 3 ∷ 3 ∷ 3 ∷ 3 ∷ 3 ∷ 1 ∷ 2 ∷ 2 ∷ 2 ∷ 1 ∷ 2 ∷ 2 ∷ 3 ∷ 3 ∷ 3 ∷ 3 ∷ 3 ∷ 2 ∷ [])
+    ((1, 10) ∷ (10, 14) ∷ (2, 11) ∷ (11, 12) ∷ (12, 13) ∷ (13, 15) ∷ (15, 16) ∷ (16, 22) ∷ (3, 4) ∷ (4, 5) ∷ (5, 6) ∷ (6, 7) ∷ (7, 8) ∷ (8, 9) ∷ (9, 17) ∷ (17, 18) ∷ (18, 19) ∷ (19, 20) ∷ (20, 21) ∷ [])
     ∷ refused 1
     ∷ refused 3
     ∷ refused 4

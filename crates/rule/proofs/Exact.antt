@@ -27,8 +27,8 @@ shortfall-exact : (D : ℕ) (a b : ℤ) (moved t : ℕ) → 0 < shortfall D a (b
 shortfall-exact D a b moved t h e =
     parts-eq (b +ℤ pos t) (a +ℤ pos D)
     (⊎-elim (λ z. absurd (omega (arith, z, h)))
-      (λ z. omega (arith, z, e, parts-add a (pos D), parts-add b (pos moved), parts-sub (b +ℤ pos moved) a, parts-sub (pos D) (b +ℤ pos moved -ℤ a), parts-add b (pos t)))
-      (one-part (pos D -ℤ (b +ℤ pos moved -ℤ a))))
+    (λ z. omega (arith, z, e, parts-add a (pos D), parts-add b (pos moved), parts-sub (b +ℤ pos moved) a, parts-sub (pos D) (b +ℤ pos moved -ℤ a), parts-add b (pos t)))
+    (one-part (pos D -ℤ (b +ℤ pos moved -ℤ a))))
 
 pub meet-exact : (D j c moved : ℕ) (xs ys : List (List Dot)) (m : ℕ → ℕ) (t : ℕ) → Falling c xs → All (λ x. (lastOf x) .child ≤ j) xs
     → ((p : ℕ) → p ≤ c → m p ≡ shares j (meet D moved (rightContour xs) (leftContour ys)) p)
@@ -38,17 +38,23 @@ meet-exact D j c moved [] ys m t f o hm ht = inl refl
 meet-exact D j c moved (x ∷ xs) [] m t f o hm ht = inl refl
 meet-exact D j c moved (x ∷ xs) (y ∷ ys) m t f o hm ht =
     ⊎-elim (λ z.
-        ⊎-elim (λ e. inl (omega arith))
-        (λ h. inr (exact
-            (omega (arith, hm ((lastOf x) .child) (f .0), share-none j (record { child = (lastOf x) .child; amount = s }) ((lastOf x) .child) (le-refl _)
-            , shares-le j (meet D (moved + s) (rightContour xs) (leftContour ys)) ((lastOf x) .child) (o .0), z))
-            (shortfall-exact D ((lastOf x) .place) ((firstOf y) .place) moved t h (omega (arith, ht, z)))))
-        (eq-zero-or-pos s))
+    ⊎-elim (λ e. inl (omega arith))
+    (λ h. inr (exact
+    (omega (
+      arith,
+      hm ((lastOf x) .child) (f .0),
+      share-none j (record { child = (lastOf x) .child; amount = s }) ((lastOf x) .child) (le-refl _),
+      shares-le j (meet D (moved + s) (rightContour xs) (leftContour ys)) ((lastOf x) .child) (o .0),
+      z,
+    ))
+    (shortfall-exact D ((lastOf x) .place) ((firstOf y) .place) moved t h (omega (arith, ht, z)))))
+    (eq-zero-or-pos s))
     (λ e. inr (lower e))
     (meet-exact D j ((lastOf x) .child) (moved + s) xs ys m t (f .1) (o .1) further (omega (arith, ht)))
   where
     s : ℕ
     s = shortfall (needed D ((lastOf x) .node) ((firstOf y) .node)) ((lastOf x) .place) ((firstOf y) .place +ℤ pos moved)
+
     further : (p : ℕ) → p ≤ (lastOf x) .child → m p ≡ shares j (meet D (moved + s) (rightContour xs) (leftContour ys)) p
     further p h = omega (arith, hm p (le-trans h (f .0)), share-none j (record { child = (lastOf x) .child; amount = s }) p h)
 
@@ -67,22 +73,25 @@ row-last D i v u x below (at w y under after) =
 pub join-exact : (D u x : ℕ) (below after : Drawing) (v : ℕ) (new : Drawing)
     → Row D (width (at u x below after)) (rowDots 0 (at u x below after))
     → Exact D (shares (width (at u x below after)) (meetings D (at u x below after) v new)) (total (meetings D (at u x below after) v new))
-      (rowDots 0 (at u x below after)) (dots (width (at u x below after)) (pos 0) (alone v (start D (at u x below after) v) new))
+    (rowDots 0 (at u x below after)) (dots (width (at u x below after)) (pos 0) (alone v (start D (at u x below after) v) new))
 join-exact D u x below after v new R =
     ⊎-elim (λ z.
-        let r = row-last D 0 v u x below after in
-        subst (λ (xs : List (List Dot)). Exact D (shares j ms) (total ms) xs (dots j (pos 0) (alone v (start D row v) new))) (sym (r .3))
-        (exact (omega (arith, shares-le j ms ((lastOf (r .0 ∷ r .1)) .child) (inside (r .0) (r .1) (r .2) (r .3)), z))
-          (parts-eq (pos (0 + start D row v) +ℤ pos (total ms)) ((lastOf (r .0 ∷ r .1)) .place +ℤ pos D)
-            (omega (arith, z, ap above0 (r .4), ap below0 (r .4))))))
+    let r = row-last D 0 v u x below after in
+    subst (λ (xs : List (List Dot)). Exact D (shares j ms) (total ms) xs (dots j (pos 0) (alone v (start D row v) new))) (sym (r .3))
+    (exact (omega (arith, shares-le j ms ((lastOf (r .0 ∷ r .1)) .child) (inside (r .0) (r .1) (r .2) (r .3)), z))
+    (parts-eq (pos (0 + start D row v) +ℤ pos (total ms)) ((lastOf (r .0 ∷ r .1)) .place +ℤ pos D)
+    (omega (arith, z, ap above0 (r .4), ap below0 (r .4))))))
     (λ e. e)
     (meet-exact D j j 0 (rowDots 0 row) (dots j (pos 0) (alone v (start D row v) new)) (shares j ms) (total ms) (R .falling) (owners D j (rowDots 0 row) R) (λ p h. refl) (omega arith))
   where
     row : Drawing
     row = at u x below after
+
     j : ℕ
     j = width row
+
     ms : List Meeting
     ms = meetings D row v new
+
     inside : (e : Dot) (l : List Dot) (ls : List (List Dot)) → rowDots 0 row ≡ (e ∷ l) ∷ ls → (lastOf (e ∷ l)) .child ≤ j
     inside e l ls p = subst (All (λ x. (lastOf x) .child ≤ j)) p (owners D j (rowDots 0 row) R) .0

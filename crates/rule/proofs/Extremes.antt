@@ -119,7 +119,7 @@ module _ (D : ℕ) (t : List ℕ) (accepted : tableNumber t ≡ 0) where
       subst₂ (λ (x y : ℤ). AtMost x (y +ℤ pos (span D (nodes t)))) (sym (dot-place D t accepted (dot 0 v (S .place)) (S .level) (S .root)))
       (sym (dot-place D t accepted (dot 0 w (R .place)) (R .level) (R .root)))
       (subst (λ (k : ℕ). AtMost (S .place) (R .place +ℤ pos (span D k))) (accepted-size t accepted)
-        (narrow-draw D 0 (pos 0) (treeOf t) (dot 0 v (S .place)) (dot 0 w (R .place)) (S .level) (R .level) (S .root) (R .root)))
+      (narrow-draw D 0 (pos 0) (treeOf t) (dot 0 v (S .place)) (dot 0 w (R .place)) (S .level) (R .level) (S .root) (R .root)))
 
   pub least-bounds : (v : ℕ) → v < nodes t → leastOf (placesOf D t) ≤ℤ place D t v
   unfolding placesOf
@@ -141,10 +141,10 @@ module _ (D : ℕ) (t : List ℕ) (accepted : tableNumber t ≡ 0) where
   width-bound =
       subst (λ (w : ℕ). greatestOf (map (place D t) (upTo (nodes t))) ≤ℤ (leastOf (map (place D t) (upTo (nodes t))) +ℤ pos w)) (span-is (nodes t))
       (parts-le _ _
-        (least-in (λ y. AtMost (greatestOf (map (place D t) (upTo (nodes t)))) (y +ℤ pos (span D (nodes t)))) (map (place D t) (upTo (nodes t))) (some-places (place D t) (nodes t) few)
-          (all-places (place D t) (λ y. AtMost (greatestOf (map (place D t) (upTo (nodes t)))) (y +ℤ pos (span D (nodes t)))) (nodes t)
-            (λ w hw. greatest-in (λ x. AtMost x (place D t w +ℤ pos (span D (nodes t)))) (map (place D t) (upTo (nodes t))) (some-places (place D t) (nodes t) few)
-              (all-places (place D t) (λ x. AtMost x (place D t w +ℤ pos (span D (nodes t)))) (nodes t) (λ v hv. places-near v w hv hw))))))
+      (least-in (λ y. AtMost (greatestOf (map (place D t) (upTo (nodes t)))) (y +ℤ pos (span D (nodes t)))) (map (place D t) (upTo (nodes t))) (some-places (place D t) (nodes t) few)
+      (all-places (place D t) (λ y. AtMost (greatestOf (map (place D t) (upTo (nodes t)))) (y +ℤ pos (span D (nodes t)))) (nodes t)
+      (λ w hw. greatest-in (λ x. AtMost x (place D t w +ℤ pos (span D (nodes t)))) (map (place D t) (upTo (nodes t))) (some-places (place D t) (nodes t) few)
+      (all-places (place D t) (λ x. AtMost x (place D t w +ℤ pos (span D (nodes t)))) (nodes t) (λ v hv. places-near v w hv hw))))))
     where
       span-is : (n : ℕ) → span D n ≡ (n - 1) * D
       span-is zero = omega arith
@@ -155,11 +155,11 @@ module _ (D : ℕ) (t : List ℕ) (accepted : tableNumber t ≡ 0) where
   small-difference hD v w hv hw =
       mag-parts (place D t v -ℤ place D t w) 1047552
       (⊎-elim (λ z. omega (arith, z))
-        (λ z. omega (arith, z, wide, places-near v w hv hw, parts-sub (place D t v) (place D t w), parts-add (place D t w) (pos (span D (nodes t)))))
-        (one-part (place D t v -ℤ place D t w)))
+      (λ z. omega (arith, z, wide, places-near v w hv hw, parts-sub (place D t v) (place D t w), parts-add (place D t w) (pos (span D (nodes t)))))
+      (one-part (place D t v -ℤ place D t w)))
       (⊎-elim (λ z. omega (arith, z, wide, places-near w v hw hv, parts-sub (place D t v) (place D t w), parts-add (place D t v) (pos (span D (nodes t)))))
-        (λ z. omega (arith, z))
-        (one-part (place D t v -ℤ place D t w)))
+      (λ z. omega (arith, z))
+      (one-part (place D t v -ℤ place D t w)))
     where
       wide : span D (nodes t) ≤ 1047552
       wide = bound (nodes t) (accepted-numbers t accepted .few)

@@ -33,8 +33,14 @@ count-beside : (x : ℕ) (xs ys : List (List ℕ)) → count x (together (beside
 count-beside x [] ys = omega arith
 count-beside x (l ∷ xs) [] = omega arith
 count-beside x (l ∷ xs) (m ∷ ys) =
-    omega (arith, count-beside x xs ys, count-append x l m, count-append x (l ++ m) (together (beside xs ys))
-    , count-append x l (together xs), count-append x m (together ys))
+    omega (
+      arith,
+      count-beside x xs ys,
+      count-append x l m,
+      count-append x (l ++ m) (together (beside xs ys)),
+      count-append x l (together xs),
+      count-append x m (together ys),
+    )
 
 -- a number occurs on the levels of a forest as often as in the forest
 pub count-levels : (x : ℕ) (f : Forest) → count x (together (levels f)) ≡ count x (preorder f)
@@ -80,10 +86,16 @@ level-here {e} (top {x = x} {xs = xs} m) c =
     (λ f. absurd (omega (arith, in-count m, member-none (e .node) (nodesOf x) f)))
     (true-or-false (member (e .node) (nodesOf x)))
 level-here {e} (down {x = x} {xs = xs} o) c =
-    ⊎-elim (λ t. absurd (omega (arith, c, count-append (e .node) (nodesOf x) (together (map nodesOf xs)), member-count (e .node) (nodesOf x) t
-        , in-count (on-together o), ap (count (e .node)) (nodes-together xs))))
+    ⊎-elim (λ t. absurd (omega (
+      arith,
+      c,
+      count-append (e .node) (nodesOf x) (together (map nodesOf xs)),
+      member-count (e .node) (nodesOf x) t,
+      in-count (on-together o),
+      ap (count (e .node)) (nodes-together xs),
+    )))
     (λ f. ap (λ (b : Bool). cond b 0 (suc (levelIn (map nodesOf xs) (e .node)))) f
-        ∙ ap suc (level-here o (omega (arith, c, count-append (e .node) (nodesOf x) (together (map nodesOf xs))))))
+    ∙ ap suc (level-here o (omega (arith, c, count-append (e .node) (nodesOf x) (together (map nodesOf xs))))))
     (true-or-false (member (e .node) (nodesOf x)))
 
 -- ---- the drawing of an accepted table
@@ -97,8 +109,12 @@ module _ (D : ℕ) (t : List ℕ) (accepted : tableNumber t ≡ 0) where
   once : (x : ℕ) → count x (together (map nodesOf (drawn D t))) ≤ 1
   once x =
       ⊎-elim (λ h. omega (arith, ap (λ (l : List (List ℕ)). count x (together l)) nodes-drawn, count-levels x (treeOf t), N .each x (h .0)))
-      (λ h. omega (arith, ap (λ (l : List (List ℕ)). count x (together l)) nodes-drawn, count-levels x (treeOf t)
-          , count-outside (nodes t) (preorder (treeOf t)) (N .below) x (h .0)))
+      (λ h. omega (
+        arith,
+        ap (λ (l : List (List ℕ)). count x (together l)) nodes-drawn,
+        count-levels x (treeOf t),
+        count-outside (nodes t) (preorder (treeOf t)) (N .below) x (h .0),
+      ))
       (below-or-not x (nodes t))
     where
       N : Numbers (nodes t) (treeOf t)

@@ -41,7 +41,7 @@ dots-settle i p o c none = refl
 dots-settle i p o c (at v x below after) =
     ap₂ (λ (l m : List (List Dot)). beside l m)
     (ap₂ (λ (q : ℤ) (l : List (List Dot)). (dot i v q ∷ []) ∷ l) (swap o c (pos x))
-      (ap (λ (q : ℤ). dots i q below) (swap-less o c (pos x) (pos (middle below))) ∙ dots-settle i p (o +ℤ pos x -ℤ pos (middle below)) c below))
+    (ap (λ (q : ℤ). dots i q below) (swap-less o c (pos x) (pos (middle below))) ∙ dots-settle i p (o +ℤ pos x -ℤ pos (middle below)) c below))
     (dots-settle i p o c after)
     ∙ sym (map-beside (settle i c) ((dot p v (o +ℤ pos x) ∷ []) ∷ dots p (o +ℤ pos x -ℤ pos (middle below)) below) (dots p o after))
 
@@ -51,7 +51,7 @@ dots-move m i o none = refl
 dots-move m i o (at v x below after) =
     map-beside (λ e. shiftBy (m (e .child)) e) ((dot i v (o +ℤ pos x) ∷ []) ∷ dots i (o +ℤ pos x -ℤ pos (middle below)) below) (dots i o after)
     ∙ ap₂ (λ (l k : List (List Dot)). beside ((settle i (m i) (dot i v (o +ℤ pos x)) ∷ []) ∷ l) k)
-      (dots-move m i (o +ℤ pos x -ℤ pos (middle below)) below) (dots-move m i o after)
+    (dots-move m i (o +ℤ pos x -ℤ pos (middle below)) below) (dots-move m i o after)
     ∙ sym (map-beside (settle i (m i)) ((dot i v (o +ℤ pos x) ∷ []) ∷ dots i (o +ℤ pos x -ℤ pos (middle below)) below) (dots i o after))
 
 pub dots-shift : (i : ℕ) (o c : ℤ) (d : Drawing) → dots i (o +ℤ c) d ≡ map (map (shiftBy c)) (dots i o d)
@@ -62,9 +62,13 @@ pub alone-shift : (i : ℕ) (v x s : ℕ) (below : Drawing) → dots i (pos 0) (
 alone-shift i v x s below =
     let here : pos (0 + (x + s)) ≡ pos (0 + x) +ℤ pos s = ap pos (omega arith) in
     let there : pos (0 + (x + s)) -ℤ pos (middle below) ≡ (pos (0 + x) -ℤ pos (middle below)) +ℤ pos s =
-        parts-eq (pos (0 + (x + s)) -ℤ pos (middle below)) ((pos (0 + x) -ℤ pos (middle below)) +ℤ pos s)
-        (omega (arith, parts-sub (pos (0 + (x + s))) (pos (middle below)), parts-sub (pos (0 + x)) (pos (middle below))
-        , parts-add (pos (0 + x) -ℤ pos (middle below)) (pos s))) in
+    parts-eq (pos (0 + (x + s)) -ℤ pos (middle below)) ((pos (0 + x) -ℤ pos (middle below)) +ℤ pos s)
+    (omega (
+      arith,
+      parts-sub (pos (0 + (x + s))) (pos (middle below)),
+      parts-sub (pos (0 + x)) (pos (middle below)),
+      parts-add (pos (0 + x) -ℤ pos (middle below)) (pos s),
+    )) in
     ap₂ (λ (p : ℤ) (l : List (List Dot)). (dot i v p ∷ []) ∷ l) here
     (ap (λ (p : ℤ). dots i p below) there ∙ dots-shift i (pos (0 + x) -ℤ pos (middle below)) (pos s) below)
 
@@ -79,7 +83,7 @@ rowDots-spread j ms p none = refl
 rowDots-spread j ms p (at v x below after) =
     ap₂ (λ (l k : List (List Dot)). beside l k)
     (alone-shift p v x (shares j ms p) below
-      ∙ dots-move (λ r. pos (shares j ms p)) p (pos 0) (alone v x below) ∙ sym (dots-move (λ r. pos (shares j ms r)) p (pos 0) (alone v x below)))
+    ∙ dots-move (λ r. pos (shares j ms p)) p (pos 0) (alone v x below) ∙ sym (dots-move (λ r. pos (shares j ms r)) p (pos 0) (alone v x below)))
     (rowDots-spread j ms (p + 1) after)
     ∙ sym (map-beside (moveBy (shares j ms)) (dots p (pos 0) (alone v x below)) (rowDots (p + 1) after))
 
@@ -96,21 +100,24 @@ width-append (at v x below after) e = omega (arith, width-append after e)
 
 pub width-join : (D : ℕ) (row : Drawing) (v : ℕ) (below : Drawing) → width (join D row v below) ≡ suc (width row)
 width-join D row v below =
-    omega (arith, width-append (spread (width row) (meetings D row v below) 0 row) (alone v (settled D row v below) below)
-    , width-spread (width row) (meetings D row v below) 0 row)
+    omega (
+      arith,
+      width-append (spread (width row) (meetings D row v below) 0 row) (alone v (settled D row v below) below),
+      width-spread (width row) (meetings D row v below) 0 row,
+    )
 
 -- the levels after a join: those of the row, each child moved by its shares, beside those of the new child, moved by the total
 pub rowDots-join : (D : ℕ) (row : Drawing) (v : ℕ) (below : Drawing)
     → rowDots 0 (join D row v below)
     ≡ beside (map (map (moveBy (shares (width row) (meetings D row v below)))) (rowDots 0 row))
-      (map (map (shiftBy (pos (total (meetings D row v below))))) (dots (width row) (pos 0) (alone v (start D row v) below)))
+    (map (map (shiftBy (pos (total (meetings D row v below))))) (dots (width row) (pos 0) (alone v (start D row v) below)))
 rowDots-join D row v below =
     let ms = meetings D row v below in
     let place : 0 + width (spread (width row) ms 0 row) ≡ width row = zero-add _ ∙ width-spread (width row) ms 0 row in
     rowDots-append 0 (spread (width row) ms 0 row) (alone v (settled D row v below) below)
     ∙ ap₂ (λ (l k : List (List Dot)). beside l k) (rowDots-spread (width row) ms 0 row)
-      (ap (λ (k : ℕ). rowDots k (alone v (settled D row v below) below)) place ∙ beside-nil (dots (width row) (pos 0) (alone v (settled D row v below) below))
-      ∙ alone-shift (width row) v (start D row v) (total ms) below)
+    (ap (λ (k : ℕ). rowDots k (alone v (settled D row v below) below)) place ∙ beside-nil (dots (width row) (pos 0) (alone v (settled D row v below) below))
+    ∙ alone-shift (width row) v (start D row v) (total ms) below)
 
 -- a row seen from outside: its dots belong to one child, and its count starts at o
 pub dots-row : (i p : ℕ) (o : ℤ) (d : Drawing) → dots i o d ≡ map (map (settle i o)) (rowDots p d)
@@ -118,11 +125,16 @@ dots-row i p o none = refl
 dots-row i p o (at v x below after) =
     let here : o +ℤ pos x ≡ pos (0 + x) +ℤ o = parts-eq (o +ℤ pos x) (pos (0 + x) +ℤ o) (omega (arith, parts-add o (pos x), parts-add (pos (0 + x)) o)) in
     let there : (o +ℤ pos x) -ℤ pos (middle below) ≡ (pos (0 + x) -ℤ pos (middle below)) +ℤ o =
-        parts-eq ((o +ℤ pos x) -ℤ pos (middle below)) ((pos (0 + x) -ℤ pos (middle below)) +ℤ o)
-        (omega (arith, parts-add o (pos x), parts-sub (o +ℤ pos x) (pos (middle below)), parts-sub (pos (0 + x)) (pos (middle below))
-        , parts-add (pos (0 + x) -ℤ pos (middle below)) o)) in
+    parts-eq ((o +ℤ pos x) -ℤ pos (middle below)) ((pos (0 + x) -ℤ pos (middle below)) +ℤ o)
+    (omega (
+      arith,
+      parts-add o (pos x),
+      parts-sub (o +ℤ pos x) (pos (middle below)),
+      parts-sub (pos (0 + x)) (pos (middle below)),
+      parts-add (pos (0 + x) -ℤ pos (middle below)) o,
+    )) in
     ap₂ (λ (l m : List (List Dot)). beside l m)
     (ap₂ (λ (q : ℤ) (l : List (List Dot)). (dot i v q ∷ []) ∷ l) here
-      (ap (λ (q : ℤ). dots i q below) there ∙ dots-settle i p (pos (0 + x) -ℤ pos (middle below)) o below))
+    (ap (λ (q : ℤ). dots i q below) there ∙ dots-settle i p (pos (0 + x) -ℤ pos (middle below)) o below))
     (dots-row i (p + 1) o after)
     ∙ sym (map-beside (settle i o) (dots p (pos 0) (alone v x below)) (rowDots (p + 1) after))

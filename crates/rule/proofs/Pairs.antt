@@ -67,9 +67,14 @@ pub pairs-beside : (w : Pair → ℕ) (xs ys : List (List ℕ)) → All Some xs 
 pairs-beside w [] ys s t = omega arith
 pairs-beside w (x ∷ xs) [] s t = omega arith
 pairs-beside w (x ∷ xs) (y ∷ ys) s t =
-    omega (arith, pairs-beside w xs ys (s .1) (t .1), pairs-seam w x y (s .0) (t .0)
-    , sumOver-append w (sideBySide (x ++ y)) (pairsIn (beside xs ys))
-    , sumOver-append w (sideBySide x) (pairsIn xs), sumOver-append w (sideBySide y) (pairsIn ys))
+    omega (
+      arith,
+      pairs-beside w xs ys (s .1) (t .1),
+      pairs-seam w x y (s .0) (t .0),
+      sumOver-append w (sideBySide (x ++ y)) (pairsIn (beside xs ys)),
+      sumOver-append w (sideBySide x) (pairsIn xs),
+      sumOver-append w (sideBySide y) (pairsIn ys),
+    )
 
 -- ---- joining measures the pairs between the row and the new child
 
@@ -89,15 +94,21 @@ pairs-join w D row v below =
     ap (λ (f : Forest). sumOver w (pairsIn (levels f))) (names-join D row v below)
     ∙ ap (λ (l : List (List ℕ)). sumOver w (pairsIn l)) (levels-join (names row) (node v (names below) nil))
     ∙ pairs-beside w (levels (names row)) (levels (node v (names below) nil)) (levels-some (names row)) (levels-some (node v (names below) nil))
-    ∙ omega (arith, ap (sumOver w) (measured-seams D row v below)
-      , ap (λ (l : List (List ℕ)). sumOver w (pairsIn l)) (beside-nil ((v ∷ []) ∷ levels (names below))))
+    ∙ omega (
+      arith,
+      ap (sumOver w) (measured-seams D row v below),
+      ap (λ (l : List (List ℕ)). sumOver w (pairsIn l)) (beside-nil ((v ∷ []) ∷ levels (names below))),
+    )
 
 pub pairs-record : (w : Pair → ℕ) (D : ℕ) (row : Drawing) (f : Forest)
     → sumOver w (pairsOf row) + sumOver w (recordOnto D row f) ≡ sumOver w (pairsOf (drawOnto D row f))
 pairs-record w D row nil = omega arith
 pairs-record w D row (node v f g) =
-    omega (arith, pairs-record w D none f
-    , pairs-record w D (join D row v (drawOnto D none f)) g
-    , pairs-join w D row v (drawOnto D none f)
-    , sumOver-append w (recordOnto D none f ++ measured D row v (drawOnto D none f)) (recordOnto D (join D row v (drawOnto D none f)) g)
-    , sumOver-append w (recordOnto D none f) (measured D row v (drawOnto D none f)))
+    omega (
+      arith,
+      pairs-record w D none f,
+      pairs-record w D (join D row v (drawOnto D none f)) g,
+      pairs-join w D row v (drawOnto D none f),
+      sumOver-append w (recordOnto D none f ++ measured D row v (drawOnto D none f)) (recordOnto D (join D row v (drawOnto D none f)) g),
+      sumOver-append w (recordOnto D none f) (measured D row v (drawOnto D none f)),
+    )

@@ -54,7 +54,7 @@ pub measured-neighbours : (D : ℕ) (t : List ℕ) → SamePairs (recorded D t) 
 measured-neighbours D t =
     record {
       many = length-sum (recorded D t) ∙ weighed (λ p. 1) D t ∙ sym (length-sum (neighbours t));
-      each = λ a b. pairCount-sum a b (recorded D t) ∙ weighed (isPair a b) D t ∙ sym (pairCount-sum a b (neighbours t))
+      each = λ a b. pairCount-sum a b (recorded D t) ∙ weighed (isPair a b) D t ∙ sym (pairCount-sum a b (neighbours t));
     }
 
 -- a pair on a level takes up one occurrence of its left node
@@ -105,8 +105,12 @@ module _ (t : List ℕ) (accepted : tableNumber t ≡ 0) where
   unfolding neighbours
   neighbours-once a b =
       ⊎-elim (λ h. omega (arith, levels-once a b (levels (treeOf t)), count-levels a (treeOf t), accepted-numbers t accepted .each a (h .0)))
-      (λ h. omega (arith, levels-once a b (levels (treeOf t)), count-levels a (treeOf t)
-          , count-outside (nodes t) (preorder (treeOf t)) (accepted-numbers t accepted .below) a (h .0)))
+      (λ h. omega (
+        arith,
+        levels-once a b (levels (treeOf t)),
+        count-levels a (treeOf t),
+        count-outside (nodes t) (preorder (treeOf t)) (accepted-numbers t accepted .below) a (h .0),
+      ))
       (below-or-not a (nodes t))
 
   -- pairs and levels together are as many as the nodes
@@ -129,10 +133,11 @@ spaced-pairs D spot (x ∷ xs) s h =
         → All (λ p. (spot (p .0) +ℤ pos D) ≤ℤ (spot (p .1))) (sideBySide (nodesOf x))
     one [] s h = tt
     one (d ∷ []) s h = tt
-    one (d ∷ e ∷ l) s h =
-        ( subst₂ (λ (a b : ℤ). (a +ℤ pos D) ≤ℤ b) (sym (h d (List·Memᴰ·head refl))) (sym (h e (List·Memᴰ·tail (List·Memᴰ·head refl))))
-          (parts-le (d .place +ℤ pos D) (e .place) (s .0 .apart))
-        , one (e ∷ l) (s .1) (λ f m. h f (List·Memᴰ·tail m)))
+    one (d ∷ e ∷ l) s h = (
+      subst₂ (λ (a b : ℤ). (a +ℤ pos D) ≤ℤ b) (sym (h d (List·Memᴰ·head refl))) (sym (h e (List·Memᴰ·tail (List·Memᴰ·head refl))))
+          (parts-le (d .place +ℤ pos D) (e .place) (s .0 .apart)),
+      one (e ∷ l) (s .1) (λ f m. h f (List·Memᴰ·tail m)),
+    )
 
 -- of every two neighbours the right one stands at least the separation further right
 pub neighbours-apart : (D : ℕ) (t : List ℕ) → tableNumber t ≡ 0 → All (λ p. (place D t (p .0) +ℤ pos D) ≤ℤ (place D t (p .1))) (neighbours t)
@@ -140,8 +145,8 @@ unfolding neighbours drawn
 neighbours-apart D t accepted =
     subst (λ (ls : List (List ℕ)). All (λ p. (place D t (p .0) +ℤ pos D) ≤ℤ (place D t (p .1))) (pairsIn ls)) (nodes-drawn D t accepted)
     (spaced-pairs D (place D t) (drawn D t)
-      (row-child D 0 (width (draw D (treeOf t))) (pos 0) (draw D (treeOf t)) (row-drawOnto D none (treeOf t) (row-none D)) .spaced)
-      (dot-place D t accepted))
+    (row-child D 0 (width (draw D (treeOf t))) (pos 0) (draw D (treeOf t)) (row-drawOnto D none (treeOf t) (row-none D)) .spaced)
+    (dot-place D t accepted))
 
 -- ---- 3. equal ordered shapes are drawn equally
 
@@ -154,9 +159,9 @@ part-at t accepted v h =
     let a = part-agrees t (r .2) (accepted-agrees t accepted) in
     let b = part-below (nodes t) (r .2) (N .below) in
     let reads : forestFrom (nodes t) t (firstChild t v) ≡ r .0 =
-        ap (forestFrom (nodes t) t) (a .0)
-        ∙ read-back t (N .few) (r .0) (a .2) (all-left (λ x. x < nodes t) (preorder (r .0)) (preorder (r .1)) (b .1)) (nodes t)
-          (omega (arith, part-size (r .2), accepted-size t accepted)) in
+    ap (forestFrom (nodes t) t) (a .0)
+    ∙ read-back t (N .few) (r .0) (a .2) (all-left (λ x. x < nodes t) (preorder (r .0)) (preorder (r .1)) (b .1)) (nodes t)
+    (omega (arith, part-size (r .2), accepted-size t accepted)) in
     (r .1, subst (λ (f : Forest). Part (node v f (r .1)) (treeOf t)) (sym reads) (r .2))
 
 -- where node v of an accepted table stands, with what is drawn below it
@@ -179,59 +184,82 @@ shapes-equal D t u ok ok′ v w hv hw same =
       shift = S′ .place -ℤ S .place;
       depth = pos (S′ .level) -ℤ pos (S .level);
       places = (root-place, all-weaken (Match 0 0 o q (dots 0 o b) (dots 0 q b′)) _ below-place (corresponding (under t v) (under u w)) matches);
-      levels = (root-level, all-weaken (Match 0 0 o q (dots 0 o b) (dots 0 q b′)) _ below-level (corresponding (under t v) (under u w)) matches)
+      levels = (root-level, all-weaken (Match 0 0 o q (dots 0 o b) (dots 0 q b′)) _ below-level (corresponding (under t v) (under u w)) matches);
     }
   where
     b : Drawing
     b = draw D (under t v)
+
     b′ : Drawing
     b′ = draw D (under u w)
+
     S : Stands 0 v b (drawn D t)
     S = stands-at D t ok v hv
+
     S′ : Stands 0 w b′ (drawn D u)
     S′ = stands-at D u ok′ w hw
+
     o : ℤ
     o = S .place -ℤ pos (middle b)
+
     q : ℤ
     q = S′ .place -ℤ pos (middle b′)
+
     alike : blank b ≡ blank b′
     alike = same-drawing D (under t v) (under u w) same
+
     middles : middle b ≡ middle b′
     middles = sym (blank-middle b) ∙ ap middle alike ∙ blank-middle b′
+
     matches : All (Match 0 0 o q (dots 0 o b) (dots 0 q b′)) (corresponding (under t v) (under u w))
     matches =
         subst₂ (λ (f g : Forest). All (Match 0 0 o q (dots 0 o b) (dots 0 q b′)) (corresponding f g)) (names-draw D (under t v)) (names-draw D (under u w))
         (alike-match 0 0 o q b b′ (blank-alike b b′ alike))
+
     across : (x y : ℤ) → y ≡ x +ℤ (y -ℤ x)
     across x y = parts-eq y (x +ℤ (y -ℤ x)) (omega (arith, parts-sub y x, parts-add x (y -ℤ x)))
+
     root-place : place D u w ≡ place D t v +ℤ (S′ .place -ℤ S .place)
     root-place =
         dot-place D u ok′ (dot 0 w (S′ .place)) (S′ .level) (S′ .root)
         ∙ across (S .place) (S′ .place)
         ∙ ap (λ (z : ℤ). z +ℤ (S′ .place -ℤ S .place)) (sym (dot-place D t ok (dot 0 v (S .place)) (S .level) (S .root)))
+
     root-level : pos (level u w) ≡ pos (level t v) +ℤ (pos (S′ .level) -ℤ pos (S .level))
     root-level =
         ap pos (dot-level D u ok′ (dot 0 w (S′ .place)) (S′ .level) (S′ .root))
         ∙ across (pos (S .level)) (pos (S′ .level))
         ∙ ap (λ (z : ℕ). pos z +ℤ (pos (S′ .level) -ℤ pos (S .level))) (sym (dot-level D t ok (dot 0 v (S .place)) (S .level) (S .root)))
+
     moved : (d : ℤ) → q +ℤ d ≡ (o +ℤ d) +ℤ (S′ .place -ℤ S .place)
     moved d =
         parts-eq (q +ℤ d) ((o +ℤ d) +ℤ (S′ .place -ℤ S .place))
-        (omega (arith, middles, parts-sub (S .place) (pos (middle b)), parts-sub (S′ .place) (pos (middle b′)), parts-add q d, parts-add o d
-        , parts-sub (S′ .place) (S .place), parts-add (o +ℤ d) (S′ .place -ℤ S .place)))
+        (omega (
+          arith,
+          middles,
+          parts-sub (S .place) (pos (middle b)),
+          parts-sub (S′ .place) (pos (middle b′)),
+          parts-add q d,
+          parts-add o d,
+          parts-sub (S′ .place) (S .place),
+          parts-add (o +ℤ d) (S′ .place -ℤ S .place),
+        ))
+
     below-place : (p : Pair) → Match 0 0 o q (dots 0 o b) (dots 0 q b′) p → place D u (p .1) ≡ place D t (p .0) +ℤ (S′ .place -ℤ S .place)
     below-place p M =
         dot-place D u ok′ (dot 0 (p .1) (q +ℤ M .distance)) (suc (S′ .level + M .level)) (S′ .under _ (M .level) (M .right))
         ∙ moved (M .distance)
         ∙ ap (λ (z : ℤ). z +ℤ (S′ .place -ℤ S .place))
-          (sym (dot-place D t ok (dot 0 (p .0) (o +ℤ M .distance)) (suc (S .level + M .level)) (S .under _ (M .level) (M .left))))
+        (sym (dot-place D t ok (dot 0 (p .0) (o +ℤ M .distance)) (suc (S .level + M .level)) (S .under _ (M .level) (M .left))))
+
     deeper : (r : ℕ) → pos (suc (S′ .level + r)) ≡ pos (suc (S .level + r)) +ℤ (pos (S′ .level) -ℤ pos (S .level))
     deeper r =
         parts-eq (pos (suc (S′ .level + r))) (pos (suc (S .level + r)) +ℤ (pos (S′ .level) -ℤ pos (S .level)))
         (omega (arith, parts-sub (pos (S′ .level)) (pos (S .level)), parts-add (pos (suc (S .level + r))) (pos (S′ .level) -ℤ pos (S .level))))
+
     below-level : (p : Pair) → Match 0 0 o q (dots 0 o b) (dots 0 q b′) p → pos (level u (p .1)) ≡ pos (level t (p .0)) +ℤ (pos (S′ .level) -ℤ pos (S .level))
     below-level p M =
         ap pos (dot-level D u ok′ (dot 0 (p .1) (q +ℤ M .distance)) (suc (S′ .level + M .level)) (S′ .under _ (M .level) (M .right)))
         ∙ deeper (M .level)
         ∙ ap (λ (z : ℕ). pos z +ℤ (pos (S′ .level) -ℤ pos (S .level)))
-          (sym (dot-level D t ok (dot 0 (p .0) (o +ℤ M .distance)) (suc (S .level + M .level)) (S .under _ (M .level) (M .left))))
+        (sym (dot-level D t ok (dot 0 (p .0) (o +ℤ M .distance)) (suc (S .level + M .level)) (S .under _ (M .level) (M .left))))

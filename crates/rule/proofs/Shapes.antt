@@ -93,8 +93,8 @@ blank-meetings D row v below =
     ap₂ (meet D 0)
     (ap rightContour (blank-rowDots 0 row) ∙ contour-last (rowDots 0 row))
     (ap₂ (λ (j x : ℕ). leftContour (dots j (pos 0) (alone 0 x (blank below)))) (blank-width row) (blank-start D row v)
-      ∙ ap leftContour (blank-dots (width row) (pos 0) (alone v (start D row v) below))
-      ∙ contour-first (dots (width row) (pos 0) (alone v (start D row v) below)))
+    ∙ ap leftContour (blank-dots (width row) (pos 0) (alone v (start D row v) below))
+    ∙ contour-first (dots (width row) (pos 0) (alone v (start D row v) below)))
     ∙ meet-blank D 0 (rowContour row) (newContour D row v below)
 
 -- ---- joins and whole rows
@@ -111,7 +111,7 @@ blank-join : (D : ℕ) (row : Drawing) (v : ℕ) (below : Drawing) → join D (b
 blank-join D row v below =
     ap₂ append
     (ap₂ (λ (j : ℕ) (ms : List Meeting). spread j ms 0 (blank row)) (blank-width row) (blank-meetings D row v below)
-      ∙ sym (blank-spread (width row) (meetings D row v below) 0 row))
+    ∙ sym (blank-spread (width row) (meetings D row v below) 0 row))
     (ap₂ (λ (x : ℕ) (ms : List Meeting). alone 0 (x + total ms) (blank below)) (blank-start D row v) (blank-meetings D row v below))
     ∙ sym (blank-append (spread (width row) (meetings D row v below) 0 row) (alone v (settled D row v below) below))
 
@@ -132,6 +132,7 @@ same-blank (node v f k) (node w g h) e =
     and-left : (a b : Bool) → (a && b) ≡ true → a ≡ true
     and-left true b e = refl
     and-left false b e = e
+
     and-right : (a b : Bool) → (a && b) ≡ true → b ≡ true
     and-right true b e = e
     and-right false b e = absurd (true-false (sym e))

@@ -45,6 +45,7 @@ share-none j m p h = ap (λ (t : ℕ). t * (m .amount / (j - m .child))) stays �
   where
     stays : p - m .child ≡ 0
     stays = omega arith
+
     zero-mul : 0 * (m .amount / (j - m .child)) ≡ 0
     zero-mul = omega arith
 
@@ -67,9 +68,16 @@ spaced-append D (d ∷ e ∷ l) m s t sl sm g = (s .0, spaced-append D (e ∷ l)
 gap-move : (D : ℕ) (m : ℕ → ℕ) → ((p r : ℕ) → p ≤ r → m p ≤ m r) → (d e : Dot) → Gap D d e → Gap D (moveBy m d) (moveBy m e)
 gap-move D m mono d e g =
     record {
-      apart = omega (arith, g .apart, mono (d .child) (e .child) (g .order), parts-add (d .place) (pos D), parts-add (d .place) (pos (m (d .child)))
-      , parts-add (d .place +ℤ pos (m (d .child))) (pos D), parts-add (e .place) (pos (m (e .child))));
-      order = g .order
+      apart = omega (
+        arith,
+        g .apart,
+        mono (d .child) (e .child) (g .order),
+        parts-add (d .place) (pos D),
+        parts-add (d .place) (pos (m (d .child))),
+        parts-add (d .place +ℤ pos (m (d .child))) (pos D),
+        parts-add (e .place) (pos (m (e .child))),
+      );
+      order = g .order;
     }
 
 pub spaced-move : (D : ℕ) (m : ℕ → ℕ) → ((p r : ℕ) → p ≤ r → m p ≤ m r) → (l : List Dot) → Spaced D l → Spaced D (map (moveBy m) l)
@@ -81,7 +89,7 @@ gap-shift : (D : ℕ) (c : ℤ) (d e : Dot) → Gap D d e → Gap D (shiftBy c d
 gap-shift D c d e g =
     record {
       apart = omega (arith, g .apart, parts-add (d .place) (pos D), parts-add (d .place) c, parts-add (d .place +ℤ c) (pos D), parts-add (e .place) c);
-      order = g .order
+      order = g .order;
     }
 
 pub spaced-shift : (D : ℕ) (c : ℤ) (l : List Dot) → Spaced D l → Spaced D (map (shiftBy c) l)
@@ -107,8 +115,14 @@ Seams D m t (x ∷ xs) (y ∷ ys) =
 -- what a shortfall says: moved by it, the node on the right keeps its distance
 shortfall-enough : (D : ℕ) (a b : ℤ) (moved : ℕ) → AtMost (a +ℤ pos D) (b +ℤ pos (moved + shortfall D a (b +ℤ pos moved)))
 shortfall-enough D a b moved =
-    omega (arith, parts-add a (pos D), parts-add b (pos moved), parts-sub (b +ℤ pos moved) a, parts-sub (pos D) (b +ℤ pos moved -ℤ a)
-    , parts-add b (pos (moved + shortfall D a (b +ℤ pos moved))))
+    omega (
+      arith,
+      parts-add a (pos D),
+      parts-add b (pos moved),
+      parts-sub (b +ℤ pos moved) a,
+      parts-sub (pos D) (b +ℤ pos moved -ℤ a),
+      parts-add b (pos (moved + shortfall D a (b +ℤ pos moved))),
+    )
 
 pub meet-seams : (D j c moved : ℕ) (xs ys : List (List Dot)) (m : ℕ → ℕ) (t : ℕ) → Falling c xs → All (λ x. (lastOf x) .child ≤ j) xs
     → ((p : ℕ) → p ≤ c → m p ≡ shares j (meet D moved (rightContour xs) (leftContour ys)) p)
@@ -116,17 +130,26 @@ pub meet-seams : (D j c moved : ℕ) (xs ys : List (List Dot)) (m : ℕ → ℕ)
     → Seams D m t xs ys
 meet-seams D j c moved [] ys m t f o hm ht = tt
 meet-seams D j c moved (x ∷ xs) [] m t f o hm ht = tt
-meet-seams D j c moved (x ∷ xs) (y ∷ ys) m t f o hm ht =
-    ( omega (arith, shortfall-enough D ((lastOf x) .place) ((firstOf y) .place) moved, ht, hm ((lastOf x) .child) (f .0)
-      , share-none j (record { child = (lastOf x) .child; amount = s }) ((lastOf x) .child) (le-refl _)
-      , shares-le j (meet D (moved + s) (rightContour xs) (leftContour ys)) ((lastOf x) .child) (o .0)
-      , parts-add ((lastOf x) .place) (pos D), parts-add ((lastOf x) .place) (pos (m ((lastOf x) .child)))
-      , parts-add ((lastOf x) .place +ℤ pos (m ((lastOf x) .child))) (pos D)
-      , parts-add ((firstOf y) .place) (pos (moved + s)), parts-add ((firstOf y) .place) (pos t))
-    , meet-seams D j ((lastOf x) .child) (moved + s) xs ys m t (f .1) (o .1) further (omega (arith, ht)))
+meet-seams D j c moved (x ∷ xs) (y ∷ ys) m t f o hm ht = (
+  omega (
+    arith,
+    shortfall-enough D ((lastOf x) .place) ((firstOf y) .place) moved,
+    ht,
+    hm ((lastOf x) .child) (f .0),
+    share-none j (record { child = (lastOf x) .child; amount = s }) ((lastOf x) .child) (le-refl _),
+    shares-le j (meet D (moved + s) (rightContour xs) (leftContour ys)) ((lastOf x) .child) (o .0),
+    parts-add ((lastOf x) .place) (pos D),
+    parts-add ((lastOf x) .place) (pos (m ((lastOf x) .child))),
+    parts-add ((lastOf x) .place +ℤ pos (m ((lastOf x) .child))) (pos D),
+    parts-add ((firstOf y) .place) (pos (moved + s)),
+    parts-add ((firstOf y) .place) (pos t),
+  ),
+  meet-seams D j ((lastOf x) .child) (moved + s) xs ys m t (f .1) (o .1) further (omega (arith, ht)),
+)
   where
     s : ℕ
     s = shortfall (needed D ((lastOf x) .node) ((firstOf y) .node)) ((lastOf x) .place) ((firstOf y) .place +ℤ pos moved)
+
     further : (p : ℕ) → p ≤ (lastOf x) .child → m p ≡ shares j (meet D (moved + s) (rightContour xs) (leftContour ys)) p
     further p h = omega (arith, hm p (le-trans h (f .0)), share-none j (record { child = (lastOf x) .child; amount = s }) p h)
 
@@ -215,7 +238,7 @@ module _ (D j : ℕ) where
         spaced = beside-spaced xs ys (R .some) (C .some) (R .spaced) (C .spaced) t;
         falling = beside-falling j (suc j) xs ys (C .some) (C .tags) (R .falling) (le-refl j) (omega arith);
         tags = beside-all (λ e. e .child < suc j) xs ys (levels-weaken (λ e. e .child < j) (λ e. e .child < suc j) (λ e h. omega arith) xs (R .tags))
-            (levels-weaken (λ e. e .child ≡ j) (λ e. e .child < suc j) (λ e h. omega arith) ys (C .tags))
+            (levels-weaken (λ e. e .child ≡ j) (λ e. e .child < suc j) (λ e h. omega arith) ys (C .tags));
       }
 
 -- ---- a row moved, a child shifted
@@ -227,9 +250,10 @@ all-map f P Q h (x ∷ l) a = (h x (a .0), all-map f P Q h l (a .1))
 falling-move : (m : ℕ → ℕ) (c : ℕ) (xs : List (List Dot)) → All Some xs → Falling c xs → Falling c (map (map (moveBy m)) xs)
 falling-move m c [] s f = tt
 falling-move m c (x ∷ xs) s f =
-    let same : (lastOf (map (moveBy m) x)) .child ≡ (lastOf x) .child = ap (λ (e : Dot). e .child) (last-map (moveBy m) x (s .0)) in
-    ( omega (arith, f .0)
-    , subst (λ (k : ℕ). Falling k (map (map (moveBy m)) xs)) (sym same) (falling-move m ((lastOf x) .child) xs (s .1) (f .1)))
+    let same : (lastOf (map (moveBy m) x)) .child ≡ (lastOf x) .child = ap (λ (e : Dot). e .child) (last-map (moveBy m) x (s .0)) in (
+      omega (arith, f .0),
+      subst (λ (k : ℕ). Falling k (map (map (moveBy m)) xs)) (sym same) (falling-move m ((lastOf x) .child) xs (s .1) (f .1)),
+    )
 
 pub row-move : (D j : ℕ) (m : ℕ → ℕ) → ((p r : ℕ) → p ≤ r → m p ≤ m r) → (xs : List (List Dot)) → Row D j xs → Row D j (map (map (moveBy m)) xs)
 row-move D j m mono xs R =
@@ -238,7 +262,7 @@ row-move D j m mono xs R =
       spaced = all-map (map (moveBy m)) (Spaced D) (Spaced D) (λ x s. spaced-move D m mono x s) xs (R .spaced);
       falling = falling-move m j xs (R .some) (R .falling);
       tags = all-map (map (moveBy m)) (All (λ e. e .child < j)) (All (λ e. e .child < j))
-          (λ x a. all-map (moveBy m) (λ e. e .child < j) (λ e. e .child < j) (λ e h. h) x a) xs (R .tags)
+          (λ x a. all-map (moveBy m) (λ e. e .child < j) (λ e. e .child < j) (λ e h. h) x a) xs (R .tags);
     }
 
 pub child-shift : (D j : ℕ) (c : ℤ) (ys : List (List Dot)) → Child D j ys → Child D j (map (map (shiftBy c)) ys)
@@ -247,7 +271,7 @@ child-shift D j c ys C =
       some = all-map (map (shiftBy c)) Some Some (λ x s. some-map (shiftBy c) x s) ys (C .some);
       spaced = all-map (map (shiftBy c)) (Spaced D) (Spaced D) (λ x s. spaced-shift D c x s) ys (C .spaced);
       tags = all-map (map (shiftBy c)) (All (λ e. e .child ≡ j)) (All (λ e. e .child ≡ j))
-          (λ x a. all-map (shiftBy c) (λ e. e .child ≡ j) (λ e. e .child ≡ j) (λ e h. h) x a) ys (C .tags)
+          (λ x a. all-map (shiftBy c) (λ e. e .child ≡ j) (λ e. e .child ≡ j) (λ e h. h) x a) ys (C .tags);
     }
 
 pub seams-touch : (D j : ℕ) (m : ℕ → ℕ) (t : ℕ) (xs ys : List (List Dot)) → All Some xs → All Some ys
@@ -255,25 +279,27 @@ pub seams-touch : (D j : ℕ) (m : ℕ → ℕ) (t : ℕ) (xs ys : List (List Do
     → Touch D (map (map (moveBy m)) xs) (map (map (shiftBy (pos t))) ys)
 seams-touch D j m t [] ys p q a b s = tt
 seams-touch D j m t (x ∷ xs) [] p q a b s = tt
-seams-touch D j m t (x ∷ xs) (y ∷ ys) p q a b s =
-    ( subst₂ (Gap D) (sym (last-map (moveBy m) x (p .0))) (sym (first-map (shiftBy (pos t)) y (q .0)))
+seams-touch D j m t (x ∷ xs) (y ∷ ys) p q a b s = (
+  subst₂ (Gap D) (sym (last-map (moveBy m) x (p .0))) (sym (first-map (shiftBy (pos t)) y (q .0)))
       (record {
         apart = s .0;
-        order = omega (arith, last-in (λ e. e .child < j) x (p .0) (a .0), first-in (λ e. e .child ≡ j) y (q .0) (b .0))
-      })
-    , seams-touch D j m t xs ys (p .1) (q .1) (a .1) (b .1) (s .1))
+        order = omega (arith, last-in (λ e. e .child < j) x (p .0) (a .0), first-in (λ e. e .child ≡ j) y (q .0) (b .0));
+      }),
+  seams-touch D j m t xs ys (p .1) (q .1) (a .1) (b .1) (s .1),
+)
 
 -- ---- a row that is seen as the children of one node
 
 settled-spaced : (D i : ℕ) (o : ℤ) (l : List Dot) → Spaced D l → Spaced D (map (settle i o) l)
 settled-spaced D i o [] s = tt
 settled-spaced D i o (d ∷ []) s = tt
-settled-spaced D i o (d ∷ e ∷ l) s =
-    ( record {
-        apart = omega (arith, s .0 .apart, parts-add (d .place) (pos D), parts-add (d .place) o, parts-add (d .place +ℤ o) (pos D), parts-add (e .place) o);
-        order = le-refl i
-      }
-    , settled-spaced D i o (e ∷ l) (s .1))
+settled-spaced D i o (d ∷ e ∷ l) s = (
+  record {
+    apart = omega (arith, s .0 .apart, parts-add (d .place) (pos D), parts-add (d .place) o, parts-add (d .place +ℤ o) (pos D), parts-add (e .place) o);
+    order = le-refl i;
+  },
+  settled-spaced D i o (e ∷ l) (s .1),
+)
 
 pub row-child : (D i w : ℕ) (o : ℤ) (d : Drawing) → Row D w (rowDots 0 d) → Child D i (dots i o d)
 row-child D i w o d R =
@@ -282,7 +308,7 @@ row-child D i w o d R =
       some = all-map (map (settle i o)) Some Some (λ x s. some-map (settle i o) x s) (rowDots 0 d) (R .some);
       spaced = all-map (map (settle i o)) (Spaced D) (Spaced D) (λ x s. settled-spaced D i o x s) (rowDots 0 d) (R .spaced);
       tags = all-map (map (settle i o)) (All (λ e. e .child < w)) (All (λ e. e .child ≡ i))
-          (λ x a. all-map (settle i o) (λ e. e .child < w) (λ e. e .child ≡ i) (λ e h. refl) x a) (rowDots 0 d) (R .tags)
+          (λ x a. all-map (settle i o) (λ e. e .child < w) (λ e. e .child ≡ i) (λ e h. refl) x a) (rowDots 0 d) (R .tags);
     })
 
 pub alone-child : (D i w v x : ℕ) (below : Drawing) → Row D w (rowDots 0 below) → Child D i (dots i (pos 0) (alone v x below))
@@ -305,20 +331,25 @@ pub row-join : (D : ℕ) (row : Drawing) (v : ℕ) (below : Drawing) → Row D (
 row-join D row v below R B =
     subst₂ (Row D) (sym (width-join D row v below)) (sym (rowDots-join D row v below))
     (row-beside D j (map (map (moveBy m)) xs) (map (map (shiftBy (pos (total ms)))) ys)
-      (row-move D j m (shares-mono j ms) xs R) (child-shift D j (pos (total ms)) ys C)
-      (seams-touch D j m (total ms) xs ys (R .some) (C .some) (R .tags) (C .tags)
-        (meet-seams D j j 0 xs ys m (total ms) (R .falling) (owners D j xs R) (λ p h. refl) (omega arith))))
+    (row-move D j m (shares-mono j ms) xs R) (child-shift D j (pos (total ms)) ys C)
+    (seams-touch D j m (total ms) xs ys (R .some) (C .some) (R .tags) (C .tags)
+    (meet-seams D j j 0 xs ys m (total ms) (R .falling) (owners D j xs R) (λ p h. refl) (omega arith))))
   where
     j : ℕ
     j = width row
+
     ms : List Meeting
     ms = meetings D row v below
+
     m : ℕ → ℕ
     m = shares j ms
+
     xs : List (List Dot)
     xs = rowDots 0 row
+
     ys : List (List Dot)
     ys = dots (width row) (pos 0) (alone v (start D row v) below)
+
     C : Child D j ys
     C = alone-child D (width row) (width below) v (start D row v) below B
 

@@ -47,17 +47,23 @@ record-join : (a b D : ℕ) (row : Drawing) (f g : Forest)
 record-join a b D row nil g = omega arith
 record-join a b D row (node v f h) g =
     let B = drawOnto D none f in
-    omega (arith, record-join a b D (join D row v B) h g
-    , pairCount-append a b (recordOnto D none f ++ measured D row v B) (recordOnto D (join D row v B) (joinForest h g))
-    , pairCount-append a b (recordOnto D none f ++ measured D row v B) (recordOnto D (join D row v B) h))
+    omega (
+      arith,
+      record-join a b D (join D row v B) h g,
+      pairCount-append a b (recordOnto D none f ++ measured D row v B) (recordOnto D (join D row v B) (joinForest h g)),
+      pairCount-append a b (recordOnto D none f ++ measured D row v B) (recordOnto D (join D row v B) h),
+    )
 
 -- the pairs of one join
 record-node : (a b D : ℕ) (row : Drawing) (v : ℕ) (f g : Forest)
     → pairCount a b (recordOnto D none f) + pairCount a b (measured D row v (draw D f)) + pairCount a b (recordOnto D (join D row v (draw D f)) g)
     ≡ pairCount a b (recordOnto D row (node v f g))
 record-node a b D row v f g =
-    omega (arith, pairCount-append a b (recordOnto D none f ++ measured D row v (draw D f)) (recordOnto D (join D row v (draw D f)) g)
-    , pairCount-append a b (recordOnto D none f) (measured D row v (draw D f)))
+    omega (
+      arith,
+      pairCount-append a b (recordOnto D none f ++ measured D row v (draw D f)) (recordOnto D (join D row v (draw D f)) g),
+      pairCount-append a b (recordOnto D none f) (measured D row v (draw D f)),
+    )
 
 record-part : (a b D : ℕ) (row : Drawing) {v : ℕ} {f g h : Forest} → Part (node v f g) h → pairCount a b (recordOnto D none f) ≤ pairCount a b (recordOnto D row h)
 record-part a b D row {v} {f} {g} whole = omega (arith, record-node a b D row v f g)
@@ -84,7 +90,7 @@ last-of v w f g (node u k h) =
       others = node (r .first) (r .firstBelow) (r .others);
       last = r .last;
       below = r .below;
-      split = ap (node v f) (r .split)
+      split = ap (node v f) (r .split);
     }
 
 two-or-more : (f : Forest) → 2 ≤ length (roots f) → LastOf f
@@ -106,8 +112,13 @@ on-move f (x ∷ xs) (down o) = down (on-move f xs o)
 -- a node on the levels of a drawing is a node of its forest
 on-names : (d : Drawing) (ls : List (List Dot)) → map nodesOf ls ≡ levels (names d) → (e : Dot) (l : ℕ) → OnLevel e l ls → 1 ≤ count (e .node) (preorder (names d))
 on-names d ls same e l o =
-    omega (arith, in-count (on-together o), ap (count (e .node)) (nodes-together ls)
-    , ap (λ (k : List (List ℕ)). count (e .node) (together k)) same, count-levels (e .node) (names d))
+    omega (
+      arith,
+      in-count (on-together o),
+      ap (count (e .node)) (nodes-together ls),
+      ap (λ (k : List (List ℕ)). count (e .node) (together k)) same,
+      count-levels (e .node) (names d),
+    )
 
 recorded-is : (D : ℕ) (t : List ℕ) → recorded D t ≡ recordOnto D none (treeOf t)
 unfolding recorded
@@ -140,74 +151,107 @@ no-slack D t accepted v h two =
       right-in = subst (λ (f : Forest). 1 ≤ count (M .right .node) (preorder (node (L .last) f nil))) (names-draw D (L .below))
           (on-names (alone (L .last) (start D row (L .last)) new) ys (nodes-dots j (pos 0) (alone (L .last) (start D row (L .last)) new)) (M .right) (M .level) (M .on-child));
       side-by-side = side-by-side;
-      exactly = exactly
+      exactly = exactly;
     }
   where
     L : LastOf (under t v)
     L = two-or-more (under t v) two
+
     earlier : Forest
     earlier = node (L .first) (L .firstBelow) (L .others)
+
     row : Drawing
     row = draw D earlier
+
     new : Drawing
     new = draw D (L .below)
+
     j : ℕ
     j = width row
+
     ys : List (List Dot)
     ys = dots j (pos 0) (alone (L .last) (start D row (L .last)) new)
+
     ms : List Meeting
     ms = meetings D row (L .last) new
+
     R : Row D j (rowDots 0 row)
     R = row-drawOnto D none earlier (row-none D)
+
     C : Child D j ys
     C = alone-child D j (width new) (L .last) (start D row (L .last)) new (row-drawOnto D none (L .below) (row-none D))
+
     some-row : (d : Drawing) → names d ≡ earlier → Row D (width d) (rowDots 0 d)
         → Measured D (shares (width d) (meetings D d (L .last) new)) (total (meetings D d (L .last) new)) (rowDots 0 d)
-          (dots (width d) (pos 0) (alone (L .last) (start D d (L .last)) new))
+        (dots (width d) (pos 0) (alone (L .last) (start D d (L .last)) new))
     some-row none e r = absurd (omega (arith, ap size e))
     some-row (at u x b c) e r =
         exact-dots D _ _ (rowDots 0 (at u x b c)) (dots (width (at u x b c)) (pos 0) (alone (L .last) (start D (at u x b c) (L .last)) new)) (r .some)
         (alone-child D (width (at u x b c)) (width new) (L .last) (start D (at u x b c) (L .last)) new (row-drawOnto D none (L .below) (row-none D)) .some)
         (join-exact D u x b c (L .last) new r)
+
     M : Measured D (shares j ms) (total ms) (rowDots 0 row) ys
     M = some-row row (names-draw D earlier) R
+
     S : Stands 0 v (draw D (under t v)) (drawn D t)
     S = stands-at D t accepted v h
+
     o : ℤ
     o = S .place -ℤ pos (middle (draw D (under t v)))
+
     drawn-below : draw D (under t v) ≡ join D row (L .last) new
     drawn-below = ap (draw D) (L .split) ∙ drawOnto-join D none earlier (node (L .last) (L .below) nil)
+
     levels-below : dots 0 o (draw D (under t v))
         ≡ map (map (settle 0 o)) (beside (map (map (moveBy (shares j ms))) (rowDots 0 row)) (map (map (shiftBy (pos (total ms)))) ys))
     levels-below =
         dots-row 0 0 o (draw D (under t v)) ∙ ap (λ (d : Drawing). map (map (settle 0 o)) (rowDots 0 d)) drawn-below
         ∙ ap (map (map (settle 0 o))) (rowDots-join D row (L .last) new)
+
     left-place : place D t (M .left .node) ≡ (M .left .place +ℤ pos (shares j ms (M .left .child))) +ℤ o
     left-place =
         dot-place D t accepted (settle 0 o (moveBy (shares j ms) (M .left))) (suc (S .level + M .level))
         (S .under _ (M .level) (subst (OnLevel (settle 0 o (moveBy (shares j ms) (M .left))) (M .level)) (sym levels-below)
-          (on-move (settle 0 o) _ (on-left (map (map (shiftBy (pos (total ms)))) ys) (on-move (moveBy (shares j ms)) (rowDots 0 row) (M .on-row))))))
+        (on-move (settle 0 o) _ (on-left (map (map (shiftBy (pos (total ms)))) ys) (on-move (moveBy (shares j ms)) (rowDots 0 row) (M .on-row))))))
+
     right-place : place D t (M .right .node) ≡ (M .right .place +ℤ pos (total ms)) +ℤ o
     right-place =
         dot-place D t accepted (settle 0 o (shiftBy (pos (total ms)) (M .right))) (suc (S .level + M .level))
         (S .under _ (M .level) (subst (OnLevel (settle 0 o (shiftBy (pos (total ms)) (M .right))) (M .level)) (sym levels-below)
-          (on-move (settle 0 o) _ (on-right (map (map (moveBy (shares j ms))) (rowDots 0 row)) (on-move (shiftBy (pos (total ms))) ys (M .on-child))))))
+        (on-move (settle 0 o) _ (on-right (map (map (moveBy (shares j ms))) (rowDots 0 row)) (on-move (shiftBy (pos (total ms))) ys (M .on-child))))))
+
     exactly : place D t (M .right .node) ≡ place D t (M .left .node) +ℤ pos D
     exactly =
         parts-eq (place D t (M .right .node)) (place D t (M .left .node) +ℤ pos D)
-        (omega (arith, M .stays, ap above0 left-place, ap below0 left-place, ap above0 right-place, ap below0 right-place
-        , ap above0 (M .exactly), ap below0 (M .exactly)
-        , parts-add (M .left .place) (pos (shares j ms (M .left .child))), parts-add (M .left .place +ℤ pos (shares j ms (M .left .child))) o
-        , parts-add (M .right .place) (pos (total ms)), parts-add (M .right .place +ℤ pos (total ms)) o
-        , parts-add (M .left .place) (pos D), parts-add (place D t (M .left .node)) (pos D)))
+        (omega (
+          arith,
+          M .stays,
+          ap above0 left-place,
+          ap below0 left-place,
+          ap above0 right-place,
+          ap below0 right-place,
+          ap above0 (M .exactly),
+          ap below0 (M .exactly),
+          parts-add (M .left .place) (pos (shares j ms (M .left .child))),
+          parts-add (M .left .place +ℤ pos (shares j ms (M .left .child))) o,
+          parts-add (M .right .place) (pos (total ms)),
+          parts-add (M .right .place +ℤ pos (total ms)) o,
+          parts-add (M .left .place) (pos D),
+          parts-add (place D t (M .left .node)) (pos D),
+        ))
+
     side-by-side : 1 ≤ pairCount (M .left .node) (M .right .node) (neighbours t)
     side-by-side =
         let a = M .left .node in
         let b = M .right .node in
         let p = part-at t accepted v h in
-        omega (arith, M .counted, measured-neighbours D t .each a b
-        , record-part a b D none (p .1)
-        , ap (λ (f : Forest). pairCount a b (recordOnto D none f)) (L .split)
-        , record-join a b D none earlier (node (L .last) (L .below) nil)
-        , record-node a b D row (L .last) (L .below) nil
-        , ap (pairCount a b) (recorded-is D t))
+        omega (
+          arith,
+          M .counted,
+          measured-neighbours D t .each a b,
+          record-part a b D none (p .1),
+          ap (λ (f : Forest). pairCount a b (recordOnto D none f)) (L .split),
+          record-join a b D none earlier (node (L .last) (L .below) nil),
+          record-node a b D row (L .last) (L .below) nil,
+          ap (pairCount a b) (recorded-is D t),
+        )

@@ -57,8 +57,18 @@ narrow-map w c g h xs n e f l k o p =
     let s = on-map g xs p in
     let pe : e .place ≡ r .0 .place +ℤ c = ap (λ (d : Dot). d .place) (r .2) ∙ h (r .0) in
     let pf : f .place ≡ s .0 .place +ℤ c = ap (λ (d : Dot). d .place) (s .2) ∙ h (s .0) in
-    omega (arith, n (r .0) (s .0) l k (r .1) (s .1), ap above0 pe, ap below0 pe, ap above0 pf, ap below0 pf
-    , parts-add (r .0 .place) c, parts-add (s .0 .place) c, parts-add (s .0 .place) (pos w), parts-add (f .place) (pos w))
+    omega (
+      arith,
+      n (r .0) (s .0) l k (r .1) (s .1),
+      ap above0 pe,
+      ap below0 pe,
+      ap above0 pf,
+      ap below0 pf,
+      parts-add (r .0 .place) c,
+      parts-add (s .0 .place) c,
+      parts-add (s .0 .place) (pos w),
+      parts-add (f .place) (pos w),
+    )
 
 -- ---- a dot of the row stays, or is led by a dot of the new child on its level
 
@@ -69,9 +79,10 @@ last-right D d (e ∷ []) s m =
     (λ k. absurd (List·Memᴰ·not-nil k)) (List·Memᴰ·cases-cons m)
 last-right D d (e ∷ f ∷ l) s m =
     ⊎-elim (λ p.
-        let r = last-right D f (f ∷ l) (s .1) (List·Memᴰ·head refl) in
-        ( omega (arith, ap (λ (g : Dot). g .child) p, s .0 .order, r .0)
-        , omega (arith, ap (λ (g : Dot). above0 (g .place)) p, ap (λ (g : Dot). below0 (g .place)) p, s .0 .apart, parts-add (e .place) (pos D), r .1)))
+    let r = last-right D f (f ∷ l) (s .1) (List·Memᴰ·head refl) in (
+      omega (arith, ap (λ (g : Dot). g .child) p, s .0 .order, r .0),
+      omega (arith, ap (λ (g : Dot). above0 (g .place)) p, ap (λ (g : Dot). below0 (g .place)) p, s .0 .apart, parts-add (e .place) (pos D), r .1),
+    ))
     (λ k. last-right D d (f ∷ l) (s .1) k) (List·Memᴰ·cases-cons m)
 
 first-mem : (y : List Dot) → Some y → List·Memᴰ (firstOf y) y
@@ -103,8 +114,15 @@ stay-or-led D j c moved (x ∷ xs) (y ∷ ys) m t mono f s q e hm d zero (top k)
     inr (record {
       leader = firstOf y;
       on = top (first-mem y (q .0));
-      right = omega (arith, r .1, mono (d .child) ((lastOf x) .child) (r .0), e .0, parts-add (d .place) (pos (m (d .child)))
-      , parts-add ((lastOf x) .place) (pos (m ((lastOf x) .child))), parts-add ((lastOf x) .place +ℤ pos (m ((lastOf x) .child))) (pos D))
+      right = omega (
+        arith,
+        r .1,
+        mono (d .child) ((lastOf x) .child) (r .0),
+        e .0,
+        parts-add (d .place) (pos (m (d .child))),
+        parts-add ((lastOf x) .place) (pos (m ((lastOf x) .child))),
+        parts-add ((lastOf x) .place +ℤ pos (m ((lastOf x) .child))) (pos D),
+      );
     })
 stay-or-led D j c moved (x ∷ xs) (y ∷ ys) m t mono f s q e hm d (suc l) (down o) =
     ⊎-elim (λ z. inl z) (λ z. inr (record { leader = z .leader; on = down (z .on); right = z .right }))
@@ -112,6 +130,7 @@ stay-or-led D j c moved (x ∷ xs) (y ∷ ys) m t mono f s q e hm d (suc l) (dow
   where
     a : ℕ
     a = shortfall (needed D ((lastOf x) .node) ((firstOf y) .node)) ((lastOf x) .place) ((firstOf y) .place +ℤ pos moved)
+
     further : (p : ℕ) → p ≤ (lastOf x) .child → m p ≡ shares j (meet D (moved + a) (rightContour xs) (leftContour ys)) p
     further p h = omega (arith, hm p (le-trans h (f .0)), share-none j (record { child = (lastOf x) .child; amount = a }) p h)
 
@@ -139,30 +158,67 @@ exact-dots D m t (x ∷ xs) (y ∷ ys) p q (exact z e) =
     here = omega (arith, is-pair ((lastOf x) .node) ((firstOf y) .node))
 exact-dots D m t (x ∷ xs) (y ∷ ys) p q (lower e) =
     let M = exact-dots D m t xs ys (p .1) (q .1) e in
-    record { left = M .left; right = M .right; level = suc (M .level); on-row = down (M .on-row); on-child = down (M .on-child); stays = M .stays; exactly = M .exactly
-    ; counted = le-trans (M .counted) (omega arith) }
+    record {
+      left = M .left;
+      right = M .right;
+      level = suc (M .level);
+      on-row = down (M .on-row);
+      on-child = down (M .on-child);
+      stays = M .stays;
+      exactly = M .exactly;
+      counted = le-trans (M .counted) (omega arith);
+    }
 
 module _ (D : ℕ) (m : ℕ → ℕ) (t : ℕ) (xs ys : List (List Dot)) (w v : ℕ) (nx : Narrow w xs) (ny : Narrow v ys) (M : Measured D m t xs ys)
     (led : (d : Dot) (l : ℕ) → OnLevel d l xs → (m (d .child) ≡ 0) ⊎ Led m t d l ys) where
   -- a dot of the child against one of the row
   child-row : (e f : Dot) (l k : ℕ) → OnLevel e l ys → OnLevel f k xs → AtMost (e .place +ℤ pos t) ((f .place +ℤ pos (m (f .child))) +ℤ pos (w + v + D))
   child-row e f l k o p =
-      omega (arith, ny e (M .right) l (M .level) o (M .on-child), nx (M .left) f (M .level) k (M .on-row) p
-      , ap above0 (M .exactly), ap below0 (M .exactly)
-      , parts-add (M .right .place) (pos v), parts-add (M .right .place) (pos t), parts-add (M .left .place) (pos D), parts-add (f .place) (pos w)
-      , parts-add (e .place) (pos t), parts-add (f .place) (pos (m (f .child))), parts-add (f .place +ℤ pos (m (f .child))) (pos (w + v + D)))
+      omega (
+        arith,
+        ny e (M .right) l (M .level) o (M .on-child),
+        nx (M .left) f (M .level) k (M .on-row) p,
+        ap above0 (M .exactly),
+        ap below0 (M .exactly),
+        parts-add (M .right .place) (pos v),
+        parts-add (M .right .place) (pos t),
+        parts-add (M .left .place) (pos D),
+        parts-add (f .place) (pos w),
+        parts-add (e .place) (pos t),
+        parts-add (f .place) (pos (m (f .child))),
+        parts-add (f .place +ℤ pos (m (f .child))) (pos (w + v + D)),
+      )
 
   -- a dot of the row against one of the child
   row-child′ : (e f : Dot) (l k : ℕ) → OnLevel e l xs → OnLevel f k ys → AtMost (e .place +ℤ pos (m (e .child))) ((f .place +ℤ pos t) +ℤ pos (w + v + D))
   row-child′ e f l k o p =
       ⊎-elim (λ z.
-          omega (arith, z, nx e (M .left) l (M .level) o (M .on-row), ny (M .right) f (M .level) k (M .on-child) p
-          , ap above0 (M .exactly), ap below0 (M .exactly)
-          , parts-add (M .left .place) (pos w), parts-add (f .place) (pos v), parts-add (M .right .place) (pos t), parts-add (M .left .place) (pos D)
-          , parts-add (e .place) (pos (m (e .child))), parts-add (f .place) (pos t), parts-add (f .place +ℤ pos t) (pos (w + v + D))))
+      omega (
+        arith,
+        z,
+        nx e (M .left) l (M .level) o (M .on-row),
+        ny (M .right) f (M .level) k (M .on-child) p,
+        ap above0 (M .exactly),
+        ap below0 (M .exactly),
+        parts-add (M .left .place) (pos w),
+        parts-add (f .place) (pos v),
+        parts-add (M .right .place) (pos t),
+        parts-add (M .left .place) (pos D),
+        parts-add (e .place) (pos (m (e .child))),
+        parts-add (f .place) (pos t),
+        parts-add (f .place +ℤ pos t) (pos (w + v + D)),
+      ))
       (λ g.
-          omega (arith, g .right, ny (g .leader) f l k (g .on) p, parts-add (g .leader .place) (pos t), parts-add (f .place) (pos v)
-          , parts-add (f .place) (pos t), parts-add (f .place +ℤ pos t) (pos (w + v + D)), parts-add (e .place) (pos (m (e .child)))))
+      omega (
+        arith,
+        g .right,
+        ny (g .leader) f l k (g .on) p,
+        parts-add (g .leader .place) (pos t),
+        parts-add (f .place) (pos v),
+        parts-add (f .place) (pos t),
+        parts-add (f .place +ℤ pos t) (pos (w + v + D)),
+        parts-add (e .place) (pos (m (e .child))),
+      ))
       (led e l o)
 
   -- two dots of the row
@@ -170,33 +226,46 @@ module _ (D : ℕ) (m : ℕ → ℕ) (t : ℕ) (xs ys : List (List Dot)) (w v : 
       → AtMost (e .place +ℤ pos (m (e .child))) ((f .place +ℤ pos (m (f .child))) +ℤ pos (w + v + D))
   row-row e f l k o p =
       ⊎-elim (λ z.
-          omega (arith, z, nx e f l k o p, parts-add (f .place) (pos w), parts-add (e .place) (pos (m (e .child)))
-          , parts-add (f .place) (pos (m (f .child))), parts-add (f .place +ℤ pos (m (f .child))) (pos (w + v + D))))
+      omega (
+        arith,
+        z,
+        nx e f l k o p,
+        parts-add (f .place) (pos w),
+        parts-add (e .place) (pos (m (e .child))),
+        parts-add (f .place) (pos (m (f .child))),
+        parts-add (f .place +ℤ pos (m (f .child))) (pos (w + v + D)),
+      ))
       (λ g. omega (arith, g .right, child-row (g .leader) f l k (g .on) p))
       (led e l o)
 
   pub narrow-join : Narrow (w + v + D) (beside (map (map (moveBy m)) xs) (map (map (shiftBy (pos t))) ys))
   narrow-join e f l k o p =
       ⊎-elim (λ oe.
-          let r = on-map (moveBy m) xs oe in
-          ⊎-elim (λ of.
-              let s = on-map (moveBy m) xs of in
-              subst₂ (λ (a b : Dot). AtMost (a .place) (b .place +ℤ pos (w + v + D))) (sym (r .2)) (sym (s .2)) (row-row (r .0) (s .0) l k (r .1) (s .1)))
-          (λ of.
-              let s = on-map (shiftBy (pos t)) ys of in
-              subst₂ (λ (a b : Dot). AtMost (a .place) (b .place +ℤ pos (w + v + D))) (sym (r .2)) (sym (s .2)) (row-child′ (r .0) (s .0) l k (r .1) (s .1)))
-          (on-cases (map (map (moveBy m)) xs) (map (map (shiftBy (pos t))) ys) p))
+      let r = on-map (moveBy m) xs oe in
+      ⊎-elim (λ of.
+      let s = on-map (moveBy m) xs of in
+      subst₂ (λ (a b : Dot). AtMost (a .place) (b .place +ℤ pos (w + v + D))) (sym (r .2)) (sym (s .2)) (row-row (r .0) (s .0) l k (r .1) (s .1)))
+      (λ of.
+      let s = on-map (shiftBy (pos t)) ys of in
+      subst₂ (λ (a b : Dot). AtMost (a .place) (b .place +ℤ pos (w + v + D))) (sym (r .2)) (sym (s .2)) (row-child′ (r .0) (s .0) l k (r .1) (s .1)))
+      (on-cases (map (map (moveBy m)) xs) (map (map (shiftBy (pos t))) ys) p))
       (λ oe.
-          let r = on-map (shiftBy (pos t)) ys oe in
-          ⊎-elim (λ of.
-              let s = on-map (moveBy m) xs of in
-              subst₂ (λ (a b : Dot). AtMost (a .place) (b .place +ℤ pos (w + v + D))) (sym (r .2)) (sym (s .2)) (child-row (r .0) (s .0) l k (r .1) (s .1)))
-          (λ of.
-              let s = on-map (shiftBy (pos t)) ys of in
-              subst₂ (λ (a b : Dot). AtMost (a .place) (b .place +ℤ pos (w + v + D))) (sym (r .2)) (sym (s .2))
-              (omega (arith, ny (r .0) (s .0) l k (r .1) (s .1), parts-add (s .0 .place) (pos v), parts-add (r .0 .place) (pos t), parts-add (s .0 .place) (pos t)
-              , parts-add (s .0 .place +ℤ pos t) (pos (w + v + D)))))
-          (on-cases (map (map (moveBy m)) xs) (map (map (shiftBy (pos t))) ys) p))
+      let r = on-map (shiftBy (pos t)) ys oe in
+      ⊎-elim (λ of.
+      let s = on-map (moveBy m) xs of in
+      subst₂ (λ (a b : Dot). AtMost (a .place) (b .place +ℤ pos (w + v + D))) (sym (r .2)) (sym (s .2)) (child-row (r .0) (s .0) l k (r .1) (s .1)))
+      (λ of.
+      let s = on-map (shiftBy (pos t)) ys of in
+      subst₂ (λ (a b : Dot). AtMost (a .place) (b .place +ℤ pos (w + v + D))) (sym (r .2)) (sym (s .2))
+      (omega (
+        arith,
+        ny (r .0) (s .0) l k (r .1) (s .1),
+        parts-add (s .0 .place) (pos v),
+        parts-add (r .0 .place) (pos t),
+        parts-add (s .0 .place) (pos t),
+        parts-add (s .0 .place +ℤ pos t) (pos (w + v + D)),
+      )))
+      (on-cases (map (map (moveBy m)) xs) (map (map (shiftBy (pos t))) ys) p))
       (on-cases (map (map (moveBy m)) xs) (map (map (shiftBy (pos t))) ys) o)
 
 -- ---- a node above its children
@@ -258,13 +327,13 @@ module _ (w i v : ℕ) (o : ℤ) (u x : ℕ) (below after : Drawing) (n : Narrow
   unfolding above
   narrow-node e f l k oe of =
       ⊎-elim (λ pe.
-          ⊎-elim (λ pf. subst₂ (λ (a b : Dot). AtMost (a .place) (b .place +ℤ pos w)) (sym pe) (sym pf) (omega (arith, parts-add above (pos w))))
-          (λ pf. subst (λ (a : Dot). AtMost (a .place) (f .place +ℤ pos w)) (sym pe) (above-dot f (pf .0) (pf .1)))
-          (split f k of))
+      ⊎-elim (λ pf. subst₂ (λ (a b : Dot). AtMost (a .place) (b .place +ℤ pos w)) (sym pe) (sym pf) (omega (arith, parts-add above (pos w))))
+      (λ pf. subst (λ (a : Dot). AtMost (a .place) (f .place +ℤ pos w)) (sym pe) (above-dot f (pf .0) (pf .1)))
+      (split f k of))
       (λ pe.
-          ⊎-elim (λ pf. subst (λ (b : Dot). AtMost (e .place) (b .place +ℤ pos w)) (sym pf) (dot-above e (pe .0) (pe .1)))
-          (λ pf. n e f (pe .0) (pf .0) (pe .1) (pf .1))
-          (split f k of))
+      ⊎-elim (λ pf. subst (λ (b : Dot). AtMost (e .place) (b .place +ℤ pos w)) (sym pf) (dot-above e (pe .0) (pe .1)))
+      (λ pf. n e f (pe .0) (pf .0) (pe .1) (pf .1))
+      (split f k of))
       (split e l oe)
 
 -- a child and what is drawn below it
@@ -278,10 +347,11 @@ narrow-alone w i v x none n = λ e f l k oe of.
 narrow-alone w i v x (at u y b c) n =
     subst (λ (p : ℤ). Narrow w ((dot i v p ∷ []) ∷ dots i o (at u y b c))) back
     (narrow-node w i v o u y b c
-      (subst (Narrow w) (sym (dots-row i 0 o (at u y b c))) (narrow-map w o (settle i o) (λ e. refl) (rowDots 0 (at u y b c)) n)))
+    (subst (Narrow w) (sym (dots-row i 0 o (at u y b c))) (narrow-map w o (settle i o) (λ e. refl) (rowDots 0 (at u y b c)) n)))
   where
     o : ℤ
     o = pos (0 + x) -ℤ pos (middle (at u y b c))
+
     back : o +ℤ pos (middle (at u y b c)) ≡ pos (0 + x)
     back =
         parts-eq (o +ℤ pos (middle (at u y b c))) (pos (0 + x))
@@ -307,34 +377,42 @@ narrow-row-join : (D : ℕ) (row : Drawing) (v : ℕ) (below : Drawing) → Row 
 narrow-row-join D none v below R B n b =
     subst₂ Narrow (sym (ap (λ (f : Forest). span D (size f)) (names-join D none v below))) (sym (rowDots-join D none v below))
     (narrow-map _ (pos 0) (shiftBy (pos 0)) (λ e. refl) (dots 0 (pos 0) (alone v 0 below))
-      (narrow-wider (span D (size (names below))) _ (dots 0 (pos 0) (alone v 0 below)) fits (narrow-alone (span D (size (names below))) 0 v 0 below b)))
+    (narrow-wider (span D (size (names below))) _ (dots 0 (pos 0) (alone v 0 below)) fits (narrow-alone (span D (size (names below))) 0 v 0 below b)))
   where
     fits : span D (size (names below)) ≤ (size (names below) + 0) * D
     fits = omega (arith, span-mono D (size (names below)))
 narrow-row-join D (at u x under after) v below R B n b =
     subst₂ Narrow (sym sizes) (sym (rowDots-join D row v below))
     (narrow-join D m (total ms) xs ys (span D (size (names row))) (size (names below) * D) n
-      (narrow-wider (span D (size (names below))) _ ys (span-mono D (size (names below))) (narrow-alone (span D (size (names below))) j v (start D row v) below b))
-      (exact-dots D m (total ms) xs ys (R .some) (C .some) (join-exact D u x under after v below R))
-      (stay-or-led D j j 0 xs ys m (total ms) (shares-mono j ms) (R .falling) (R .spaced) (C .some)
-        (meet-seams D j j 0 xs ys m (total ms) (R .falling) (owners D j xs R) (λ p h. refl) (omega arith)) (λ p h. refl)))
+    (narrow-wider (span D (size (names below))) _ ys (span-mono D (size (names below))) (narrow-alone (span D (size (names below))) j v (start D row v) below b))
+    (exact-dots D m (total ms) xs ys (R .some) (C .some) (join-exact D u x under after v below R))
+    (stay-or-led D j j 0 xs ys m (total ms) (shares-mono j ms) (R .falling) (R .spaced) (C .some)
+    (meet-seams D j j 0 xs ys m (total ms) (R .falling) (owners D j xs R) (λ p h. refl) (omega arith)) (λ p h. refl)))
   where
     row : Drawing
     row = at u x under after
+
     j : ℕ
     j = width row
+
     ms : List Meeting
     ms = meetings D row v below
+
     m : ℕ → ℕ
     m = shares j ms
+
     xs : List (List Dot)
     xs = rowDots 0 row
+
     ys : List (List Dot)
     ys = dots j (pos 0) (alone v (start D row v) below)
+
     C : Child D j ys
     C = alone-child D j (width below) v (start D row v) below B
+
     counted : size (names row) + size (node v (names below) nil) ≡ suc ((size (names under) + size (names after)) + suc (size (names below)))
     counted = omega arith
+
     sizes : span D (size (names (join D row v below))) ≡ span D (size (names row)) + size (names below) * D + D
     sizes =
         ap (λ (f : Forest). span D (size f)) (names-join D row v below)
@@ -357,4 +435,4 @@ pub narrow-draw : (D i : ℕ) (o : ℤ) (f : Forest) → Narrow (span D (size f)
 narrow-draw D i o f =
     subst (Narrow (span D (size f))) (sym (dots-row i 0 o (draw D f)))
     (narrow-map (span D (size f)) o (settle i o) (λ e. refl) (rowDots 0 (draw D f))
-      (subst (λ (g : Forest). Narrow (span D (size g)) (rowDots 0 (draw D f))) (names-draw D f) (narrow-drawOnto D none f (row-none D) (narrow-none D))))
+    (subst (λ (g : Forest). Narrow (span D (size g)) (rowDots 0 (draw D f))) (names-draw D f) (narrow-drawOnto D none f (row-none D) (narrow-none D))))

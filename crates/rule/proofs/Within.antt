@@ -85,7 +85,7 @@ has-stands i o {v} {b} (here {x = x} {after = after}) =
       level = 0;
       place = o +ℤ pos x;
       root = on-left (dots i o after) (top (List·Memᴰ·head refl));
-      under = λ e r h. subst (λ (k : ℕ). OnLevel e (suc k) (dots i o (at v x b after))) (sym (zero-add r)) (on-left (dots i o after) (down h))
+      under = λ e r h. subst (λ (k : ℕ). OnLevel e (suc k) (dots i o (at v x b after))) (sym (zero-add r)) (on-left (dots i o after) (down h));
     }
 has-stands i o {v} {b} (below {u = u} {x = x} {d = d} {after = after} h) =
     let S = has-stands i (o +ℤ pos x -ℤ pos (middle d)) h in
@@ -93,7 +93,7 @@ has-stands i o {v} {b} (below {u = u} {x = x} {d = d} {after = after} h) =
       level = suc (S .level);
       place = S .place;
       root = on-left (dots i o after) (down (S .root));
-      under = λ e r k. subst (λ (n : ℕ). OnLevel e (suc n) (dots i o (at u x d after))) (sym (suc-add (S .level) r)) (on-left (dots i o after) (down (S .under e r k)))
+      under = λ e r k. subst (λ (n : ℕ). OnLevel e (suc n) (dots i o (at u x d after))) (sym (suc-add (S .level) r)) (on-left (dots i o after) (down (S .under e r k)));
     }
 has-stands i o (beyond {u = u} {x = x} {d = d} {after = after} h) =
     let S = has-stands i o h in
@@ -101,7 +101,7 @@ has-stands i o (beyond {u = u} {x = x} {d = d} {after = after} h) =
       level = S .level;
       place = S .place;
       root = on-right ((dot i u (o +ℤ pos x) ∷ []) ∷ dots i (o +ℤ pos x -ℤ pos (middle d)) d) (S .root);
-      under = λ e r k. on-right ((dot i u (o +ℤ pos x) ∷ []) ∷ dots i (o +ℤ pos x -ℤ pos (middle d)) d) (S .under e r k)
+      under = λ e r k. on-right ((dot i u (o +ℤ pos x) ∷ []) ∷ dots i (o +ℤ pos x -ℤ pos (middle d)) d) (S .under e r k);
     }
 
 -- ---- drawings that are alike
@@ -117,15 +117,17 @@ pub blank-alike : (d e : Drawing) → blank d ≡ blank e → Alike d e
 blank-alike none none p = tt
 blank-alike none (at w y b′ a′) p = absurd (omega (arith, ap width p))
 blank-alike (at v x b a) none p = absurd (omega (arith, ap width p))
-blank-alike (at v x b a) (at w y b′ a′) p =
-    ( ap firstPlace p
-    , sym (blank-middle b) ∙ ap (λ (d : Drawing). middle (below-of d)) p ∙ blank-middle b′
-    , blank-alike b b′ (ap below-of p)
-    , blank-alike a a′ (ap after-of p))
+blank-alike (at v x b a) (at w y b′ a′) p = (
+  ap firstPlace p,
+  sym (blank-middle b) ∙ ap (λ (d : Drawing). middle (below-of d)) p ∙ blank-middle b′,
+  blank-alike b b′ (ap below-of p),
+  blank-alike a a′ (ap after-of p),
+)
   where
     below-of : Drawing → Drawing
     below-of none = none
     below-of (at v x b a) = b
+
     after-of : Drawing → Drawing
     after-of none = none
     after-of (at v x b a) = a
@@ -146,19 +148,20 @@ regroup o x m d =
 pub alike-match : (i j : ℕ) (o q : ℤ) (d e : Drawing) → Alike d e → All (Match i j o q (dots i o d) (dots j q e)) (corresponding (names d) (names e))
 alike-match i j o q none e a = tt
 alike-match i j o q (at v x b c) none a = tt
-alike-match i j o q (at v x b c) (at w y b′ c′) a =
-    ( record {
-        level = 0;
-        distance = pos x;
-        left = on-left (dots i o c) (top (List·Memᴰ·head refl));
-        right = on-left (dots j q c′) (top (List·Memᴰ·head (ap (λ (z : ℕ). dot j w (q +ℤ pos z)) (a .0))))
-      }
-    , all-append (Match i j o q (dots i o (at v x b c)) (dots j q (at w y b′ c′))) (corresponding (names b) (names b′)) (corresponding (names c) (names c′))
+alike-match i j o q (at v x b c) (at w y b′ c′) a = (
+  record {
+    level = 0;
+    distance = pos x;
+    left = on-left (dots i o c) (top (List·Memᴰ·head refl));
+    right = on-left (dots j q c′) (top (List·Memᴰ·head (ap (λ (z : ℕ). dot j w (q +ℤ pos z)) (a .0))));
+  },
+  all-append (Match i j o q (dots i o (at v x b c)) (dots j q (at w y b′ c′))) (corresponding (names b) (names b′)) (corresponding (names c) (names c′))
       (all-weaken (Match i j (o +ℤ pos x -ℤ pos (middle b)) (q +ℤ pos y -ℤ pos (middle b′)) (dots i (o +ℤ pos x -ℤ pos (middle b)) b) (dots j (q +ℤ pos y -ℤ pos (middle b′)) b′))
-        (Match i j o q (dots i o (at v x b c)) (dots j q (at w y b′ c′))) lower (corresponding (names b) (names b′))
-        (alike-match i j (o +ℤ pos x -ℤ pos (middle b)) (q +ℤ pos y -ℤ pos (middle b′)) b b′ (a .2)))
+      (Match i j o q (dots i o (at v x b c)) (dots j q (at w y b′ c′))) lower (corresponding (names b) (names b′))
+      (alike-match i j (o +ℤ pos x -ℤ pos (middle b)) (q +ℤ pos y -ℤ pos (middle b′)) b b′ (a .2)))
       (all-weaken (Match i j o q (dots i o c) (dots j q c′)) (Match i j o q (dots i o (at v x b c)) (dots j q (at w y b′ c′))) aside (corresponding (names c) (names c′))
-        (alike-match i j o q c c′ (a .3))))
+      (alike-match i j o q c c′ (a .3))),
+)
   where
     lower : (p : Pair) → Match i j (o +ℤ pos x -ℤ pos (middle b)) (q +ℤ pos y -ℤ pos (middle b′)) (dots i (o +ℤ pos x -ℤ pos (middle b)) b) (dots j (q +ℤ pos y -ℤ pos (middle b′)) b′) p
         → Match i j o q (dots i o (at v x b c)) (dots j q (at w y b′ c′)) p
@@ -170,14 +173,15 @@ alike-match i j o q (at v x b c) (at w y b′ c′) a =
               (on-left (dots i o c) (down (M .left)));
           right = subst (λ (z : ℤ). OnLevel (dot j (p .1) z) (suc (M .level)) (dots j q (at w y b′ c′)))
               (regroup q (pos y) (pos (middle b′)) (M .distance)
-                ∙ ap₂ (λ (s t : ℕ). q +ℤ ((pos s -ℤ pos t) +ℤ M .distance)) (sym (a .0)) (sym (a .1)))
-              (on-left (dots j q c′) (down (M .right)))
+              ∙ ap₂ (λ (s t : ℕ). q +ℤ ((pos s -ℤ pos t) +ℤ M .distance)) (sym (a .0)) (sym (a .1)))
+              (on-left (dots j q c′) (down (M .right)));
         }
+
     aside : (p : Pair) → Match i j o q (dots i o c) (dots j q c′) p → Match i j o q (dots i o (at v x b c)) (dots j q (at w y b′ c′)) p
     aside p M =
         record {
           level = M .level;
           distance = M .distance;
           left = on-right ((dot i v (o +ℤ pos x) ∷ []) ∷ dots i (o +ℤ pos x -ℤ pos (middle b)) b) (M .left);
-          right = on-right ((dot j w (q +ℤ pos y) ∷ []) ∷ dots j (q +ℤ pos y -ℤ pos (middle b′)) b′) (M .right)
+          right = on-right ((dot j w (q +ℤ pos y) ∷ []) ∷ dots j (q +ℤ pos y -ℤ pos (middle b′)) b′) (M .right);
         }

@@ -8,14 +8,13 @@ use lib.IntN.{ℤ, pos}
 use lib.Signed.{leZ}
 use lib.ListN.{length, replicate}
 use Rattle.refusal.specs.First.{Condition, _⇐_, first}
-use Rattle.refusal.specs.Slice.{after}
+use Rattle.refusal.specs.After.{granted, after}
 use Rattle.tree.specs.Numbers.{upTo, flatMap}
 use Rattle.tree.specs.Table
 use Rattle.tree.specs.Levels
 use Rattle.tree.specs.Table.{nodes}
 use Rattle.tree.specs.Levels.{Pair, level, levelCount, neighbours}
 use Rattle.tree.specs.WellFormed.{tableConditions}
-use Rattle.tree.specs.Operations.{unlessRefused}
 use Rattle.rule.specs.Drawing.{Dot}
 use Rattle.rule.specs.Rule.{drawn}
 use Rattle.rule.specs.Record.{SamePairs, flat}
@@ -89,19 +88,14 @@ pub record Answer : Type 0 where
   pub greatest : ℤ
   pub pairs : ℕ
 
--- a signed result where the number is 0, else 0
-abbrev pub signedUnlessRefused : ℕ → ℤ → ℤ
-signedUnlessRefused zero z = z
-signedUnlessRefused (suc k) z = pos 0
-
 -- what a call gives: the answer `a`, and the slices `u` where they held `s`
 pub record Layout (t : List ℕ) (separation : ℕ) (s : Slices) (a : Answer) (u : Slices) : Type 0 where
   pub number : a .number ≡ layoutNumber t separation s
-  pub nodes : a .nodes ≡ unlessRefused (layoutNumber t separation s) (Table.nodes t)
-  pub levelCount : a .levels ≡ unlessRefused (layoutNumber t separation s) (Levels.levelCount t)
-  pub least : a .least ≡ signedUnlessRefused (layoutNumber t separation s) (leastOf (placesOf separation t))
-  pub greatest : a .greatest ≡ signedUnlessRefused (layoutNumber t separation s) (greatestOf (placesOf separation t))
-  pub pairs : a .pairs ≡ unlessRefused (layoutNumber t separation s) (length (neighbours t))
+  pub nodes : a .nodes ≡ granted (layoutNumber t separation s) (Table.nodes t) 0
+  pub levelCount : a .levels ≡ granted (layoutNumber t separation s) (Levels.levelCount t) 0
+  pub least : a .least ≡ granted (layoutNumber t separation s) (leastOf (placesOf separation t)) (pos 0)
+  pub greatest : a .greatest ≡ granted (layoutNumber t separation s) (greatestOf (placesOf separation t)) (pos 0)
+  pub pairs : a .pairs ≡ granted (layoutNumber t separation s) (length (neighbours t)) 0
   pub places : u .places ≡ after (layoutNumber t separation s) (placesOf separation t) (s .places)
   pub levels : u .levels ≡ after (layoutNumber t separation s) (levelsOf t) (s .levels)
   -- the record names the neighbours, each pair once, in an order that is left open

@@ -8,12 +8,12 @@ use mathlib.Core.List.{List}
 use lib.Dec.{eqb, ltb}
 use lib.ListN.{length}
 use borrow.Author.Tests.{ltb-false, eqb-true, not-false}
-use Rattle.refusal.specs.Slice.{after}
+use Rattle.refusal.specs.After.{after}
 use Rattle.sheet.specs.Block.{blockBytes, blockCount, blockAt, sound, inPlace}
 use Rattle.sheet.specs.Layout.{mostNodes, mostSeparation, blocksFor, laidOut}
 use Rattle.sheet.specs.Steps.{RowsRead}
 use Rattle.sheet.proofs.Below.{every-at}
-use Rattle.sheet.specs.Read.{nodesOf, separationOf, someBlockFails, lengthWrong, checkWrong, placeWrong, within, layoutWrong, roomWrong, refusal, granted, SheetRead}
+use Rattle.sheet.specs.Read.{nodesOf, separationOf, someBlockFails, lengthWrong, checkWrong, placeWrong, within, layoutWrong, roomWrong, refusal, SheetRead}
 
 -- neither of two tests holds
 neither : (a b : Bool) → a || b ≡ false → (a ≡ false) × (b ≡ false)
@@ -70,7 +70,7 @@ accepted file t s h =
 module _ (file table tapes : List ℕ) where
   pub refused-read : (number : ℕ) → (number ≡ 0 → ⊥) → number ≡ refusal file (length table) (length tapes)
       → SheetRead file table tapes (record { number = number; nodes = 0; separation = 0 }) table tapes
-  unfolding granted after
+  unfolding after
   refused-read zero h e = absurd (h refl)
   refused-read (suc k) h e = record {
     number = e;
@@ -84,7 +84,7 @@ module _ (file table tapes : List ℕ) where
       → separation ≡ separationOf file
       → RowsRead file nodes table tapes table′ tapes′
       → SheetRead file table tapes (record { number = 0; nodes = nodes; separation = separation }) table′ tapes′
-  unfolding granted after
+  unfolding after
   accepted-read nodes separation table′ tapes′ e isNodes isSeparation rows = record {
     number = sym e;
     nodes = rw e isNodes;

@@ -6,10 +6,10 @@ use mathlib.Core.Bool.{Bool, true, false, not}
 use mathlib.Core.List.{List}
 use lib.ListN.{length}
 use borrow.Author.Tests.{eq-eqb, le-ltb, le-leb}
-use Rattle.refusal.specs.Slice.{overwrite, after}
+use Rattle.refusal.specs.After.{overwrite, after}
 use Rattle.sheet.specs.Block.{blockBytes, blockCount, blockAt, sound, inPlace}
 use Rattle.sheet.specs.Layout.{mostNodes, mostSeparation, blocksFor, laidOut}
-use Rattle.sheet.specs.Read.{nodesOf, separationOf, tableOf, tapesOf, someBlockFails, lengthWrong, checkWrong, placeWrong, layoutWrong, roomWrong, refusal, granted, SheetRead}
+use Rattle.sheet.specs.Read.{nodesOf, separationOf, tableOf, tapesOf, someBlockFails, lengthWrong, checkWrong, placeWrong, layoutWrong, roomWrong, refusal, SheetRead}
 use Rattle.sheet.specs.File.{content, fileOf, Contents, ReadBack}
 use Rattle.sheet.specs.declared.Sheet.{Sheet}
 use Rattle.sheet.proofs.Below.{every-holds, joined-cong}
@@ -92,7 +92,7 @@ module _ (n separation : ℕ) (table tapes : List ℕ) (held : Contents n separa
   pub read-written : (old-table old-tapes table′ tapes′ : List ℕ) (answer : Sheet) → 2 * n ≤ length old-table → 2 * n ≤ length old-tapes
       → SheetRead file old-table old-tapes answer table′ tapes′
       → (answer ≡ record { number = 0; nodes = n; separation = separation }) × (table′ ≡ overwrite table old-table) × (tapes′ ≡ overwrite tapes old-tapes)
-  unfolding granted after
+  unfolding after
   read-written old-table old-tapes table′ tapes′ answer t s read =
       let zero-number = accepted (length old-table) (length old-tapes) t s in
       let number : answer .number ≡ 0 = read .number ∙ zero-number in

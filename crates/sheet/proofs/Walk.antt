@@ -8,7 +8,7 @@ use mathlib.Core.List.{List, [], _∷_, _++_, append-assoc, append-nil}
 use lib.ListN.{length, getD, take, drop, set, length-append, length-drop, drop-of-length-le}
 use lib.Seq.{drop-cons, drop-drop, take-all, take-at, drop-at, length-take-le, set-at, append-snoc}
 use borrow.Rule.Slice.PartMut.{midOf, putMid}
-use Rattle.refusal.specs.Slice.{overwrite}
+use Rattle.refusal.specs.After.{overwrite}
 use Rattle.sheet.specs.Below.{joined}
 use Rattle.sheet.specs.Block.{wordAt, blockAt}
 use Rattle.sheet.specs.Layout.{blockRows, rowWord, nodeBlock, nodeWord, rowsIn}

@@ -6,7 +6,7 @@ use mathlib.Core.List.{List, [], _∷_}
 use lib.Dec.{eqb, ltb, leb}
 use lib.ListN.{length}
 use Rattle.refusal.specs.First.{Condition, _⇐_, first}
-use Rattle.refusal.specs.Slice.{after}
+use Rattle.refusal.specs.After.{granted, after}
 use Rattle.sheet.specs.Below.{every, joined}
 use Rattle.sheet.specs.Block.{blockBytes, blockCount, blockAt, wordAt, sound, inPlace}
 use Rattle.sheet.specs.Layout.{mostNodes, mostSeparation, firstWord, blocksFor, nodeBlock, nodeWord, laidOut}
@@ -85,15 +85,10 @@ conditions file tableLength tapesLength =
 unfoldable pub refusal : List ℕ → ℕ → ℕ → ℕ
 refusal file tableLength tapesLength = first (conditions file tableLength tapesLength)
 
--- a result field of an operation that gave the number k: x where it was accepted, and else 0
-unfoldable pub granted : ℕ → ℕ → ℕ
-granted zero x = x
-granted (suc k) x = 0
-
 -- what `read_sheet` promises of its answer and of both slices afterwards
 pub record SheetRead (file table tapes : List ℕ) (answer : Sheet) (table′ tapes′ : List ℕ) : Type 0 where
   pub number : answer .number ≡ refusal file (length table) (length tapes)
-  pub nodes : answer .nodes ≡ granted (refusal file (length table) (length tapes)) (nodesOf file)
-  pub separation : answer .separation ≡ granted (refusal file (length table) (length tapes)) (separationOf file)
+  pub nodes : answer .nodes ≡ granted (refusal file (length table) (length tapes)) (nodesOf file) 0
+  pub separation : answer .separation ≡ granted (refusal file (length table) (length tapes)) (separationOf file) 0
   pub table-after : table′ ≡ after (refusal file (length table) (length tapes)) (tableOf file (nodesOf file)) table
   pub tapes-after : tapes′ ≡ after (refusal file (length table) (length tapes)) (tapesOf file (nodesOf file)) tapes

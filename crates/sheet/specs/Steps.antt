@@ -3,7 +3,7 @@ use Prim.Native.Nat.{ℕ, _+_, _*_}
 use mathlib.Core.Path.{_≡_}
 use mathlib.Core.List.{List}
 use lib.ListN.{length, set}
-use Rattle.refusal.specs.Slice.{overwrite}
+use Rattle.refusal.specs.After.{overwrite}
 use Rattle.sheet.specs.Below.{joined}
 use Rattle.sheet.specs.Block.{blockBytes, blockAt}
 use Rattle.sheet.specs.Layout.{rowWord}

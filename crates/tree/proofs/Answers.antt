@@ -9,7 +9,7 @@ use lib.Dec.{ltb}
 use lib.ListN.{length, drop}
 use borrow.Author.Tests.{lt-ltb, le-ltb}
 use Rattle.refusal.specs.First.{_⇐_, first}
-use Rattle.refusal.specs.Slice.{overwrite, after}
+use Rattle.refusal.specs.After.{overwrite, after}
 use Rattle.refusal.proofs.Laws.{first-refused, first-passed, first-none}
 use Rattle.tree.specs.Table.{nodes}
 use Rattle.tree.specs.Forest.{treeOf}

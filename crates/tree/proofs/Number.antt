@@ -3,7 +3,7 @@ use mathlib.Core.Path.{_≡_, refl}
 use mathlib.Core.Logic.{_↔_, _⊎_, inl, inr, ⊎-elim}
 use mathlib.Core.Bool.{true, false}
 use mathlib.Core.List.{List}
-use Rattle.tree.specs.Operations.{unlessRefused}
+use Rattle.refusal.specs.After.{granted}
 use Prim.Native.Nat.{ℕ, zero, suc, _%_, _<_, _≤_}
 use native.Mathlib.Omega.{arith}
 use lib.ListN.{length}
@@ -60,6 +60,6 @@ module _ (t : List ℕ) where
       simp (p .size, p .entries, p .root, p .named, e)
 
 -- a refusal leaves the count of nodes at 0
-pub refused-none : (k n : ℕ) → (k ≡ 0 → ⊥) → 0 ≡ unlessRefused k n
+pub refused-none : (k n : ℕ) → (k ≡ 0 → ⊥) → 0 ≡ granted k n 0
 refused-none zero n h = absurd (h refl)
 refused-none (suc k) n h = refl

@@ -6,22 +6,17 @@ use mathlib.Core.List.{List, [], _∷_, _++_}
 use lib.Dec.{ltb}
 use lib.ListN.{length}
 use Rattle.refusal.specs.First.{_⇐_, first}
-use Rattle.refusal.specs.Slice.{after}
+use Rattle.refusal.specs.After.{granted, after}
 use Rattle.tree.specs.Table
 use Rattle.tree.specs.Table.{nodes}
 use Rattle.tree.specs.Forest.{Forest, nil, node, treeOf, tableOf, size, preorder}
 use Rattle.tree.specs.WellFormed.{tableConditions, tableNumber}
 
--- n where the number is 0, else 0
-abbrev pub unlessRefused : ℕ → ℕ → ℕ
-unlessRefused zero n = n
-unlessRefused (suc k) n = 0
-
 -- ---- table check
 
 pub record CheckTable (table : List ℕ) (k n : ℕ) : Type 0 where
   pub number : k ≡ tableNumber table
-  pub nodes : n ≡ unlessRefused (tableNumber table) (Table.nodes table)
+  pub nodes : n ≡ granted (tableNumber table) (Table.nodes table) 0
 
 -- ---- mirror
 

@@ -5,7 +5,7 @@ use native.Mathlib.Omega.{arith}
 use borrow.Author.Needs.{needs}
 use Rattle.tree.specs.Table.{nodes}
 use Rattle.tree.specs.WellFormed.{tableNumber}
-use Rattle.tree.specs.Operations.{unlessRefused}
+use Rattle.refusal.specs.After.{granted}
 use Rattle.tree.proofs.Followed.{accepted-linked}
 use Rattle.tree.proofs.Number.{refused-none}
 use Rattle.tree.proofs.check_table.Statement.{statement}
@@ -37,7 +37,7 @@ returns-2 : tie.Need-returns-2
 returns-2 c =
     record {
       number = sym (accepted c);
-      nodes = ap (λ (k : ℕ). unlessRefused k (nodes (start c .args .table .now))) (sym (accepted c));
+      nodes = ap (λ (k : ℕ). granted k (nodes (start c .args .table .now)) 0) (sym (accepted c));
     }
 
 pub check-table-spec : {M : Type 1} → statement M

@@ -4,7 +4,7 @@ use mathlib.Core.Path.{_≡_, refl, ap, _∙_}
 use Prim.Native.Nat.{_-_, _*_, min, _<_}
 use native.Mathlib.Omega.{arith}
 use lib.ListN.{length}
-use Rattle.refusal.specs.Slice.{overwrite}
+use Rattle.refusal.specs.After.{overwrite}
 use Rattle.sheet.specs.Below.{joined}
 use Rattle.sheet.specs.Layout.{blockRows}
 use Rattle.sheet.specs.Read.{tableOf, tapesOf}
