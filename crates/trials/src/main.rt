@@ -1,0 +1,132 @@
+// Runs the sheets to try that need no layout, and prints one line for each: what is tried, and what comes of it.
+ghost use mathlib.Core.Path.{_≡_};
+ghost use lib.ListN.{length};
+
+mod example;
+
+use libc::STDOUT_FILENO;
+
+const NONE: u16 = 65535;
+
+fn say(text: &[u8]) {
+    io::write_all(STDOUT_FILENO, text);
+}
+
+fn say_number(number: u16) {
+    say(b" ");
+    io::print_decimal(STDOUT_FILENO, number as u64);
+}
+
+// The entries of a table or of a slice of tape numbers, three nodes' worth.
+fn say_entries(entries: &[u16; 6]) {
+    say_number(entries[0]);
+    say_number(entries[1]);
+    say_number(entries[2]);
+    say_number(entries[3]);
+    say_number(entries[4]);
+    say_number(entries[5]);
+}
+
+// A number, and what else there is to an acceptance.
+fn say_answer(number: u16) {
+    if number == 0 {
+        say(b" accepted");
+        return;
+    }
+    say(b" refused");
+    say_number(number);
+}
+
+fn try_check(what: &[u8], table: &[u16]) {
+    say(what);
+    say(b": check");
+    let checked = tree::check_table(table);
+    say_answer(checked.number);
+    if checked.number == 0 {
+        say(b", nodes");
+        say_number(checked.nodes);
+    }
+    say(b"\n");
+}
+
+fn try_mirror(what: &[u8], table: &[u16; 6]) {
+    let mut out = [0u16; 6];
+    say(what);
+    say(b": mirror");
+    say_answer(tree::mirror(table, &mut out));
+    say(b", table");
+    say_entries(&out);
+    say(b"\n");
+}
+
+fn try_renumber(what: &[u8], table: &[u16; 6]) {
+    let mut out = [0u16; 6];
+    let mut map = [0u16; 3];
+    say(what);
+    say(b": renumber");
+    say_answer(tree::renumber(table, &mut out, &mut map));
+    say(b", table");
+    say_entries(&out);
+    say(b", map");
+    say_number(map[0]);
+    say_number(map[1]);
+    say_number(map[2]);
+    say(b"\n");
+}
+
+fn try_read(what: &[u8], file: &[u8]) {
+    let mut table = [0u16; 6];
+    let mut tapes = [0u16; 6];
+    say(what);
+    say(b": read");
+    let sheet = sheet::read_sheet(file, &mut table, &mut tapes);
+    say_answer(sheet.number);
+    if sheet.number == 0 {
+        say(b", nodes");
+        say_number(sheet.nodes);
+        say(b", separation");
+        say_number(sheet.separation);
+        say(b", table");
+        say_entries(&table);
+        say(b", tapes");
+        say_entries(&tapes);
+    }
+    say(b"\n");
+}
+
+// A chain of 1,024 nodes.
+fn chain() -> [u16; 2048]
+    ensures { λ r. ⌜ 2048 ≡ length r ⌝ }
+{
+    let mut table = [NONE; 2048];
+    let mut node = 0;
+    while node < 1023 {
+        table[2 * node] = node as u16 + 1;
+        node += 1;
+    }
+    table
+}
+
+fn main() {
+    let family = [1, NONE, NONE, 2, NONE, NONE];
+    let chain = chain();
+    try_check(b"P8, length 0", &family[..0]);
+    try_check(b"P9, the root has a sibling", &[NONE, 1, NONE, NONE]);
+    try_check(b"P10, the root is its own child", &[0, NONE]);
+    try_check(b"P11, two nodes with no links", &[NONE, NONE, NONE, NONE]);
+    try_check(
+        b"1 and 2 name each other as first child",
+        &[NONE, NONE, 2, NONE, 1, NONE],
+    );
+    try_check(b"a chain of length 2,048", &chain);
+    try_check(b"length 2,050", &[NONE; 2050]);
+    try_mirror(b"a root with two leaves", &family);
+    try_renumber(
+        b"a root with leaves 2 and 1",
+        &[2, NONE, NONE, NONE, NONE, 1],
+    );
+    let mut file = example::file();
+    try_read(b"the sheet file of a root with two leaves", &file);
+    file[511] = 254;
+    try_read(b"the same with a wrong check word", &file);
+}
