@@ -63,8 +63,8 @@ map-beside {B = B} f (x ∷ xs) (y ∷ ys) = ap₂ (λ (l : List B) (ls : List (
 pub nodes-dots : (i : ℕ) (o : ℤ) (d : Drawing) → map (map (λ e. e .node)) (dots i o d) ≡ levels (names d)
 nodes-dots i o none = refl
 nodes-dots i o (at v x below after) =
-    map-beside (λ e. e .node) (_ ∷ dots i (o +ℤ pos x -ℤ pos (middle below)) below) (dots i o after)
-    ∙ ap₂ beside (ap (λ (l : List (List ℕ)). (v ∷ []) ∷ l) (nodes-dots i (o +ℤ pos x -ℤ pos (middle below)) below)) (nodes-dots i o after)
+    map-beside (λ e. e .node) (_ ∷ dots i _ below) (dots i o after)
+    ∙ ap₂ beside (ap (λ (l : List (List ℕ)). (v ∷ []) ∷ l) (nodes-dots i _ below)) (nodes-dots i o after)
 
 pub nodes-rowDots : (i : ℕ) (d : Drawing) → map (map (λ e. e .node)) (rowDots i d) ≡ levels (names d)
 nodes-rowDots i none = refl
