@@ -1,23 +1,22 @@
 -- Moving the go-betweens at the time or at the end gives one drawing: below a level on which a child is met, the right contour belongs to
 -- that child or to an earlier one, so what has been moved is hidden. Assumes nothing.
-use mathlib.Core.Path.{_≡_, refl, sym, ap, ap₂, _∙_, subst}
+use mathlib.Core.Path.{_≡_, refl, sym, ap, ap₂, _∙_}
 use mathlib.Core.List.{List, [], _∷_, _++_, map, append-nil, append-assoc}
-use Prim.Native.Nat.{ℕ, zero, suc, _+_, _≤_, _<_}
+use Prim.Native.Nat.{ℕ, zero, suc, _+_, _≤_}
 use native.Mathlib.Nat.{le-refl, le-trans, not-suc-le-zero, add-zero}
 use native.Mathlib.Omega.{arith}
 use lib.IntN.{ℤ, pos, _+ℤ_}
-use lib.ListN.{length, drop, length-drop}
-use lib.Seq.{drop-nil}
+use lib.ListN.{length, drop}
 use Rattle.tree.specs.Forest.{Forest, nil, node}
 use Rattle.rule.specs.Rule.{drawOnto, draw}
 use Rattle.tree.proofs.Counting.{All}
-use Rattle.rule.specs.Drawing.{Drawing, none, at, width, append, Dot, dot, dots, rowDots, firstOf, lastOf, leftContour, rightContour}
-use Rattle.rule.specs.Join.{Meeting, needed, shortfall, meet, share, shares, total, spread, start, alone, rowContour, newContour, meetings, join}
+use Rattle.rule.specs.Drawing.{Drawing, none, at, width, append, Dot, dot, dots, rowDots, lastOf, leftContour, rightContour}
+use Rattle.rule.specs.Join.{Meeting, needed, shortfall, meet, shares, total, spread, start, alone, rowContour, newContour, join}
 use Rattle.rule.specs.AtOnce.{Joining, step, walkDown, joinAtOnce, drawOntoAtOnce}
 use Rattle.rule.proofs.Signed.{parts-add, parts-eq}
 use Rattle.rule.proofs.Names.{Some}
 use Rattle.rule.proofs.Moving.{shiftBy, moveBy, rowDots-spread, alone-shift}
-use Rattle.rule.proofs.Spacing.{share-none, Falling, Row, Child, alone-child, last-map, first-map, row-none, row-join, row-drawOnto}
+use Rattle.rule.proofs.Spacing.{share-none, Falling, Row, alone-child, last-map, first-map, row-none, row-join, row-drawOnto}
 
 -- ---- lists
 

@@ -5,7 +5,6 @@ use mathlib.Core.List.{List, [], _∷_, _++_, map}
 use Prim.Native.Nat.{ℕ, zero, suc, _+_, _*_}
 use lib.IntN.{ℤ, pos, negℤ}
 use lib.ListN.{length, replicate}
-use Rattle.refusal.specs.First.{first}
 use Rattle.tree.specs.Table
 use Rattle.tree.specs.Levels
 use Rattle.tree.specs.Table.{none, nodes}

@@ -1,9 +1,9 @@
 -- The walk leaves no slack: where a child is joined to a row, on some level the two nodes measured stand exactly at the separation, and the
 -- one on the left has not moved. Assumes nothing.
-use mathlib.Core.Path.{_≡_, refl, sym, ap, ap₂, _∙_, subst}
+use mathlib.Core.Path.{_≡_, refl, sym, ap, subst}
 use mathlib.Core.Logic.{_⊎_, inl, inr, ⊎-elim}
-use mathlib.Core.List.{List, [], _∷_, _++_, map}
-use Prim.Native.Nat.{ℕ, zero, suc, _+_, _≤_, _<_}
+use mathlib.Core.List.{List, [], _∷_}
+use Prim.Native.Nat.{ℕ, _+_, _≤_, _<_}
 use native.Mathlib.Nat.{le-refl, le-trans, eq-zero-or-pos}
 use native.Mathlib.Omega.{arith}
 use lib.IntN.{ℤ, pos, _+ℤ_, _-ℤ_}
@@ -12,7 +12,6 @@ use Rattle.tree.proofs.Counting.{All}
 use Rattle.rule.specs.Drawing.{Drawing, none, at, width, Dot, dot, dots, rowDots, firstOf, lastOf, leftContour, rightContour}
 use Rattle.rule.specs.Join.{Meeting, above0, shortfall, needed, meet, shares, total, start, alone, meetings}
 use Rattle.rule.proofs.Signed.{below0, one-part, parts-add, parts-sub, parts-eq}
-use Rattle.rule.proofs.Names.{Some}
 use Rattle.rule.proofs.Spacing.{share-none, shares-le, Falling, Row, owners}
 
 -- on some level that both have, the last dot of the one stays where it is, and the first of the other, moved by t, stands at D from it

@@ -1,32 +1,30 @@
 -- The extremes of a table's drawing: the least and the greatest place bound every place, the root stands at 0 between them, and they lie at
 -- most n - 1 separations apart, so that every place and every difference of two places is small. Assumes nothing.
-use mathlib.Core.Path.{_≡_, refl, sym, ap, ap₂, _∙_, subst, subst₂}
-use mathlib.Core.Logic.{_⊎_, inl, inr, ⊎-elim}
+use mathlib.Core.Path.{_≡_, refl, sym, ap, _∙_, subst, subst₂}
+use mathlib.Core.Logic.{_⊎_, ⊎-elim}
 use mathlib.Core.Bool.{Bool, true, false, cond}
-use mathlib.Core.List.{List, [], _∷_, _++_, map, List·Memᴰ, List·Memᴰ·head, List·Memᴰ·tail}
+use mathlib.Core.List.{List, [], _∷_, _++_, map, List·Memᴰ·head}
 use Prim.Native.Nat.{ℕ, zero, suc, _+_, _-_, _*_, _≤_, _<_}
-use native.Mathlib.Nat.{not-suc-le-zero, mul-le-mul, mul-le-mul-left, mul-le-mul-right, le-trans}
+use native.Mathlib.Nat.{not-suc-le-zero, mul-le-mul-left, mul-le-mul-right, le-trans}
 use native.Mathlib.Omega.{arith}
-use lib.IntN.{ℤ, pos, negsuc, _+ℤ_, _-ℤ_}
-use lib.Signed.{_≤ℤ_, leZ, leZ-yes, mag}
-use lib.Dec.{T}
-use Rattle.tree.specs.Numbers.{upTo, count}
+use lib.IntN.{ℤ, pos, _+ℤ_, _-ℤ_}
+use lib.Signed.{_≤ℤ_, leZ, mag}
+use Rattle.tree.specs.Numbers.{upTo}
 use Rattle.tree.specs.Table.{nodes}
-use Rattle.tree.specs.Forest.{Forest, nil, node, treeOf, size, entry, siblings, preorder}
+use Rattle.tree.specs.Forest.{Forest, nil, node, treeOf, size, entry, siblings}
 use Rattle.tree.specs.WellFormed.{tableNumber}
-use Rattle.tree.proofs.Counting.{All, all-append}
+use Rattle.tree.proofs.Counting.{All}
 use Rattle.tree.proofs.Tests.{all-upTo, upTo-all}
-use Rattle.tree.proofs.Stands.{Numbers, accepted-numbers, accepted-size}
-use Rattle.rule.specs.Drawing.{Drawing, none, at, Dot, dot, dots}
-use Rattle.rule.specs.Join.{above0}
+use Rattle.tree.proofs.Stands.{accepted-numbers, accepted-size}
+use Rattle.rule.specs.Drawing.{dot, dots}
 use Rattle.rule.specs.Rule.{draw, drawn}
 use Rattle.rule.specs.Result.{place, placesOf, lesser, greater, leastOf, greatestOf}
-use Rattle.rule.proofs.Signed.{below0, one-part, parts-add, parts-sub, parts-eq, parts-le, AtMost, leZ-true, leZ-false, mag-parts}
+use Rattle.rule.proofs.Signed.{one-part, parts-add, parts-sub, parts-eq, parts-le, AtMost, leZ-true, leZ-false, mag-parts}
 use Rattle.rule.proofs.Names.{Some, some}
 use Rattle.rule.proofs.Spacing.{all-map, all-weaken}
-use Rattle.rule.proofs.Within.{OnLevel, top, down, on-left, Stands}
+use Rattle.rule.proofs.Within.{OnLevel, top}
 use Rattle.rule.proofs.Lookup.{dot-place}
-use Rattle.rule.proofs.Width.{Narrow, span, narrow-draw}
+use Rattle.rule.proofs.Width.{span, narrow-draw}
 use Rattle.rule.proofs.Promises.{stands-at}
 
 -- ---- the least and the greatest of a list

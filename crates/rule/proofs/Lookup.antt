@@ -1,52 +1,26 @@
 -- Where no number occurs twice, a node's place and level are those of its dot. Assumes nothing.
-use mathlib.Core.Path.{_≡_, refl, sym, ap, ap₂, _∙_, subst}
-use mathlib.Core.Logic.{_⊎_, inl, inr, ⊎-elim}
-use mathlib.Core.Bool.{Bool, true, false, cond}
-use mathlib.Core.List.{List, [], _∷_, _++_, map, List·Memᴰ, List·Memᴰ·head, List·Memᴰ·tail, Memᴰ·append-left, Memᴰ·append-right}
-use Prim.Native.Nat.{ℕ, zero, suc, _+_, _≤_, _<_}
+use mathlib.Core.Path.{_≡_, refl, sym, ap, _∙_}
+use mathlib.Core.Logic.{_⊎_, ⊎-elim}
+use mathlib.Core.Bool.{Bool, cond}
+use mathlib.Core.List.{List, [], _∷_, _++_, map, map-append, List·Memᴰ, List·Memᴰ·head, List·Memᴰ·tail, Memᴰ·append-left, Memᴰ·append-right}
+use Prim.Native.Nat.{ℕ, suc, _+_, _≤_}
 use native.Mathlib.Omega.{arith}
-use lib.Dec.{eqb}
-use lib.IntN.{ℤ, pos}
-use lib.ListN.{length}
+use lib.IntN.{pos}
 use borrow.Author.Tests.{eq-eqb, ne-eqb}
-use Rattle.tree.specs.Numbers.{is, count, flatMap, member}
+use Rattle.tree.specs.Numbers.{count, member}
 use Rattle.tree.specs.Table.{nodes}
-use Rattle.tree.specs.Forest.{Forest, nil, node, preorder, treeOf}
-use Rattle.tree.specs.Levels.{beside, levels, levelIn, level}
+use Rattle.tree.specs.Forest.{node, preorder, treeOf}
+use Rattle.tree.specs.Levels.{levels, together, levelIn, level}
 use Rattle.tree.specs.WellFormed.{tableNumber}
 use Rattle.tree.proofs.Counting.{is-same, is-cases, below-or-not, count-append, count-outside}
-use Rattle.tree.proofs.Tests.{true-or-false, true-false, member-count, member-none}
+use Rattle.tree.proofs.Tests.{true-or-false, member-count, member-none}
 use Rattle.tree.proofs.Stands.{Numbers, accepted-numbers}
-use Rattle.rule.specs.Drawing.{Drawing, Dot, dots}
+use Rattle.tree.proofs.LevelOf.{count-levels}
+use Rattle.rule.specs.Drawing.{Dot}
 use Rattle.rule.specs.Rule.{draw, drawn}
 use Rattle.rule.specs.Result.{placeIn, place}
 use Rattle.rule.proofs.Names.{names-draw, nodes-dots}
 use Rattle.rule.proofs.Within.{OnLevel, top, down}
-
--- all levels in a row
-abbrev pub together {ℓ} : {A : Type ℓ} → List (List A) → List A
-together = flatMap (λ l. l)
-
--- ---- counting over levels
-
-count-beside : (x : ℕ) (xs ys : List (List ℕ)) → count x (together (beside xs ys)) ≡ count x (together xs) + count x (together ys)
-count-beside x [] ys = omega arith
-count-beside x (l ∷ xs) [] = omega arith
-count-beside x (l ∷ xs) (m ∷ ys) =
-    omega (
-      arith,
-      count-beside x xs ys,
-      count-append x l m,
-      count-append x (l ++ m) (together (beside xs ys)),
-      count-append x l (together xs),
-      count-append x m (together ys),
-    )
-
--- a number occurs on the levels of a forest as often as in the forest
-pub count-levels : (x : ℕ) (f : Forest) → count x (together (levels f)) ≡ count x (preorder f)
-count-levels x nil = refl
-count-levels x (node v f g) =
-    omega (arith, count-beside x ((v ∷ []) ∷ levels f) (levels g), count-levels x f, count-levels x g, count-append x (preorder f) (preorder g))
 
 -- ---- one list of dots
 
@@ -74,11 +48,7 @@ on-together (down {x = x} o) = Memᴰ·append-right x (on-together o)
 
 pub nodes-together : (xs : List (List Dot)) → nodesOf (together xs) ≡ together (map nodesOf xs)
 nodes-together [] = refl
-nodes-together (x ∷ xs) = map-append x (together xs) ∙ ap (λ (l : List ℕ). nodesOf x ++ l) (nodes-together xs)
-  where
-    map-append : (l m : List Dot) → nodesOf (l ++ m) ≡ nodesOf l ++ nodesOf m
-    map-append [] m = refl
-    map-append (d ∷ l) m = ap (λ (r : List ℕ). d .node ∷ r) (map-append l m)
+nodes-together (x ∷ xs) = map-append (λ e. e .node) x (together xs) ∙ ap (λ (l : List ℕ). nodesOf x ++ l) (nodes-together xs)
 
 level-here : {e : Dot} {l : ℕ} {xs : List (List Dot)} → OnLevel e l xs → count (e .node) (together (map nodesOf xs)) ≤ 1 → levelIn (map nodesOf xs) (e .node) ≡ l
 level-here {e} (top {x = x} {xs = xs} m) c =

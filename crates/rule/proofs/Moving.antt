@@ -1,16 +1,16 @@
 -- What moving does to levels: a subtree's dots move with its root, and a join puts the levels of the moved row beside those of the new
 -- child. Assumes nothing.
-use mathlib.Core.Path.{_≡_, refl, sym, ap, ap₂, _∙_, subst}
-use mathlib.Core.List.{List, [], _∷_, _++_, map, append-assoc}
-use Prim.Native.Nat.{ℕ, zero, suc, _+_, _≤_, _<_}
+use mathlib.Core.Path.{_≡_, refl, sym, ap, ap₂, _∙_}
+use mathlib.Core.List.{List, [], _∷_, map}
+use Prim.Native.Nat.{ℕ, suc, _+_}
 use native.Mathlib.Nat.{add-zero, zero-add}
 use native.Mathlib.Omega.{arith}
 use lib.IntN.{ℤ, pos, _+ℤ_, _-ℤ_}
 use Rattle.tree.specs.Levels.{beside}
 use Rattle.tree.proofs.Walked.{beside-assoc, beside-nil}
 use Rattle.rule.specs.Drawing.{Drawing, none, at, width, append, middle, Dot, dot, dots, rowDots}
-use Rattle.rule.specs.Join.{Meeting, above0, shares, total, spread, start, alone, join, meetings, settled}
-use Rattle.rule.proofs.Signed.{below0, parts-add, parts-sub, parts-eq}
+use Rattle.rule.specs.Join.{Meeting, shares, total, spread, start, alone, join, meetings, settled}
+use Rattle.rule.proofs.Signed.{parts-add, parts-sub, parts-eq}
 use Rattle.rule.proofs.Names.{map-beside}
 
 -- ---- a dot moved, alone or by what its child moves

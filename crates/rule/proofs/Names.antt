@@ -1,13 +1,13 @@
 -- The forest under a drawing: joining and moving leave it as it is, and the drawing's levels are the forest's. Assumes nothing.
 use mathlib.Core.Path.{_≡_, refl, sym, ap, ap₂, _∙_}
-use mathlib.Core.List.{List, [], _∷_, _++_, map}
-use Prim.Native.Nat.{ℕ, zero, suc, _+_}
-use lib.IntN.{ℤ, pos, _+ℤ_, _-ℤ_}
+use mathlib.Core.List.{List, [], _∷_, _++_, map, map-append}
+use Prim.Native.Nat.{ℕ, _+_}
+use lib.IntN.{ℤ, pos}
 use Rattle.tree.specs.Forest.{Forest, nil, node}
 use Rattle.tree.specs.Levels.{beside, levels}
 use Rattle.tree.proofs.Counting.{All}
-use Rattle.tree.proofs.Walked.{join as joinForest, levels-join, beside-nil}
-use Rattle.rule.specs.Drawing.{Drawing, none, at, append, middle, Dot, dots, rowDots, firstOf, lastOf, leftContour, rightContour}
+use Rattle.tree.proofs.Walked.{join as joinForest, beside-nil}
+use Rattle.rule.specs.Drawing.{Drawing, none, at, append, dots, rowDots}
 use Rattle.rule.specs.Join.{Meeting, spread, join, meetings, settled}
 use Rattle.rule.specs.Rule.{drawOnto, draw}
 
@@ -54,11 +54,7 @@ names-draw D f = names-drawOnto D none f
 pub map-beside : {A B : Type 0} (f : A → B) (xs ys : List (List A)) → map (map f) (beside xs ys) ≡ beside (map (map f) xs) (map (map f) ys)
 map-beside f [] ys = refl
 map-beside f (x ∷ xs) [] = refl
-map-beside {B = B} f (x ∷ xs) (y ∷ ys) = ap₂ (λ (l : List B) (ls : List (List B)). l ∷ ls) (map-append x y) (map-beside f xs ys)
-  where
-    map-append : (l m : List _) → map f (l ++ m) ≡ map f l ++ map f m
-    map-append [] m = refl
-    map-append (a ∷ l) m = ap (λ (r : List B). f a ∷ r) (map-append l m)
+map-beside {B = B} f (x ∷ xs) (y ∷ ys) = ap₂ (λ (l : List B) (ls : List (List B)). l ∷ ls) (map-append f x y) (map-beside f xs ys)
 
 pub nodes-dots : (i : ℕ) (o : ℤ) (d : Drawing) → map (map (λ e. e .node)) (dots i o d) ≡ levels (names d)
 nodes-dots i o none = refl

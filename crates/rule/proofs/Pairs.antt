@@ -1,24 +1,19 @@
 -- The measured pairs are the pairs of neighbours: for any weight of a pair, those measured weigh as much as those side by side.
 -- Assumes nothing.
-use mathlib.Core.Path.{_≡_, refl, sym, ap, ap₂, _∙_, subst}
-use mathlib.Core.Logic.{_⊎_, inl, inr, ⊎-elim}
-use mathlib.Core.Bool.{Bool, true, false, cond, _&&_}
+use mathlib.Core.Path.{_≡_, refl, ap, ap₂, _∙_}
 use mathlib.Core.List.{List, [], _∷_, _++_, map}
-use Prim.Native.Nat.{ℕ, zero, suc, _+_, _≤_, _<_}
+use Prim.Native.Nat.{ℕ, _+_}
 use native.Mathlib.Omega.{arith}
-use lib.Dec.{eqb}
 use lib.IntN.{pos}
-use lib.ListN.{length, length-append}
-use Rattle.tree.specs.Numbers.{is, count, flatMap}
-use Rattle.tree.specs.Forest.{Forest, nil, node, preorder, size}
+use Rattle.tree.specs.Numbers.{flatMap}
+use Rattle.tree.specs.Forest.{Forest, nil, node}
 use Rattle.tree.specs.Levels.{beside, levels, sideBySide, Pair}
 use Rattle.tree.proofs.Counting.{All, sumOver, sumOver-append}
-use Rattle.tree.proofs.TableOf.{flatMap-append}
-use Rattle.tree.proofs.Walked.{join as joinForest, levels-join, beside-nil}
+use Rattle.tree.proofs.Walked.{levels-join, beside-nil}
 use Rattle.rule.specs.Drawing.{Drawing, none, at, width, Dot, dots, rowDots, firstOf, lastOf, leftContour, rightContour}
-use Rattle.rule.specs.Join.{measure, measured, join, start, rowContour, newContour}
+use Rattle.rule.specs.Join.{measure, measured, join, start}
 use Rattle.rule.specs.Rule.{drawOnto, recordOnto}
-use Rattle.rule.proofs.Names.{Some, some, levels-some, names, names-join, names-drawOnto, nodes-dots, nodes-rowDots}
+use Rattle.rule.proofs.Names.{Some, some, levels-some, names, names-join, nodes-dots, nodes-rowDots}
 
 -- ---- the last and the first of a list of nodes
 

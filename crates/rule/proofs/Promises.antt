@@ -1,28 +1,26 @@
 -- The promises of the written rule, for every accepted table and every separation. Assumes nothing.
-use mathlib.Core.Path.{_≡_, refl, sym, ap, ap₂, _∙_, subst, subst₂}
-use mathlib.Core.Logic.{_⊎_, inl, inr, ⊎-elim}
+use mathlib.Core.Path.{_≡_, refl, sym, ap, _∙_, subst, subst₂}
+use mathlib.Core.Logic.{_⊎_, ⊎-elim}
 use mathlib.Core.Bool.{Bool, true, false, cond, _&&_}
 use mathlib.Core.List.{List, [], _∷_, _++_, map, List·Memᴰ, List·Memᴰ·head, List·Memᴰ·tail}
-use Prim.Native.Nat.{ℕ, zero, suc, _+_, _*_, _≤_, _<_}
+use Prim.Native.Nat.{ℕ, suc, _+_, _≤_, _<_}
 use native.Mathlib.Omega.{arith}
 use lib.Dec.{eqb}
 use lib.IntN.{ℤ, pos, _+ℤ_, _-ℤ_}
 use lib.Signed.{_≤ℤ_}
 use lib.ListN.{length, length-append}
-use borrow.Author.Tests.{eqb-true}
-use Rattle.tree.specs.Numbers.{is, count, flatMap}
+use Rattle.tree.specs.Numbers.{is, count}
 use Rattle.tree.specs.Table.{nodes, firstChild}
-use Rattle.tree.specs.Forest.{Forest, nil, node, forest, forestFrom, treeOf, preorder, size, entry, siblings}
-use Rattle.tree.specs.Levels.{Pair, beside, levels, level, levelCount, sideBySide, neighbours}
+use Rattle.tree.specs.Forest.{Forest, nil, node, forest, forestFrom, treeOf, preorder, size}
+use Rattle.tree.specs.Levels.{Pair, beside, levels, together, level, levelCount, sideBySide, neighbours}
 use Rattle.tree.specs.Shape.{under, sameOrderedShape, correspondingUnder, corresponding}
 use Rattle.tree.specs.WellFormed.{tableNumber}
-use Rattle.tree.proofs.Counting.{All, all-append, all-left, sumOver, is-same, is-cases, below-or-not, count-append, count-outside}
-use Rattle.tree.proofs.Tests.{true-or-false}
-use Rattle.tree.proofs.Reading.{size-preorder}
+use Rattle.tree.proofs.Counting.{All, all-append, all-left, sumOver, below-or-not, count-append, count-outside}
 use Rattle.tree.proofs.Linked.{read-back}
 use Rattle.tree.proofs.Parts.{Part, locate, part-agrees, part-below, part-size}
-use Rattle.tree.proofs.Stands.{Numbers, accepted-numbers, accepted-size, accepted-agrees}
-use Rattle.rule.specs.Drawing.{Drawing, none, at, width, middle, Dot, dot, dots}
+use Rattle.tree.proofs.Stands.{accepted-numbers, accepted-size, accepted-agrees}
+use Rattle.tree.proofs.LevelOf.{count-levels}
+use Rattle.rule.specs.Drawing.{Drawing, none, width, middle, Dot, dot, dots}
 use Rattle.rule.specs.Rule.{draw, drawn, recorded}
 use Rattle.rule.specs.Record.{isPair, pairCount, SamePairs}
 use Rattle.rule.specs.Result.{place}
@@ -31,8 +29,8 @@ use Rattle.rule.proofs.Names.{Some, some, levels-some, names-draw}
 use Rattle.rule.proofs.Pairs.{pairs-record, pairsIn}
 use Rattle.rule.proofs.Spacing.{Spaced, all-weaken, row-child, row-drawOnto, row-none}
 use Rattle.rule.proofs.Shapes.{blank, blank-middle, same-drawing}
-use Rattle.rule.proofs.Within.{OnLevel, top, down, Stands, has-stands, has-draw, Alike, blank-alike, Match, alike-match}
-use Rattle.rule.proofs.Lookup.{together, nodesOf, count-levels, nodes-drawn, dot-place, dot-level}
+use Rattle.rule.proofs.Within.{OnLevel, top, down, Stands, has-stands, has-draw, blank-alike, Match, alike-match}
+use Rattle.rule.proofs.Lookup.{nodesOf, nodes-drawn, dot-place, dot-level}
 
 -- ---- 1. the measured pairs are the neighbours
 

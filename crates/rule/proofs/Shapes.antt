@@ -1,16 +1,15 @@
 -- Forests of one shape are drawn alike: nothing in a drawing but its nodes' numbers depends on the numbers. Assumes nothing.
-use mathlib.Core.Path.{_≡_, refl, sym, ap, ap₂, _∙_, subst}
+use mathlib.Core.Path.{_≡_, refl, sym, ap, ap₂, _∙_}
 use mathlib.Core.Bool.{Bool, true, false, _&&_}
-use mathlib.Core.List.{List, [], _∷_, _++_, map}
-use Prim.Native.Nat.{ℕ, zero, suc, _+_, _-_, _/_}
-use native.Mathlib.Omega.{arith}
+use mathlib.Core.List.{List, [], _∷_, map}
+use Prim.Native.Nat.{ℕ, suc, _+_, _-_, _/_}
 use lib.IntN.{ℤ, pos, _+ℤ_, _-ℤ_}
 use Rattle.tree.specs.Forest.{Forest, nil, node}
 use Rattle.tree.specs.Levels.{beside}
 use Rattle.tree.specs.Shape.{sameShape}
 use Rattle.tree.proofs.Tests.{true-false}
 use Rattle.rule.specs.Drawing.{Drawing, none, at, width, append, firstPlace, lastPlace, middle, Dot, dot, dots, rowDots, firstOf, lastOf, leftContour, rightContour}
-use Rattle.rule.specs.Join.{Meeting, needed, shortfall, meet, shares, total, spread, start, alone, join, meetings, settled, rowContour, newContour}
+use Rattle.rule.specs.Join.{Meeting, shortfall, meet, shares, total, spread, start, alone, join, meetings, settled, rowContour, newContour}
 use Rattle.rule.specs.Rule.{drawOnto, draw}
 use Rattle.rule.proofs.Names.{map-beside}
 

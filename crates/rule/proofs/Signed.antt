@@ -1,12 +1,12 @@
 -- Signed numbers for `omega`, which reads natural numbers alone. A signed number z is `above0 z` less `below0 z`; a sum, a difference, an
 -- order or an equation of signed numbers is then one of natural numbers. To prove a linear fact, hand `omega` `parts-add` or `parts-sub`
 -- of each sum and difference in it. Assumes nothing.
-use mathlib.Core.Path.{_≡_, refl, sym, ap, _∙_, subst}
+use mathlib.Core.Path.{_≡_, refl, sym, ap, subst}
 use mathlib.Core.Logic.{_⊎_, inl, inr}
 use mathlib.Core.Bool.{Bool, true, false, cond}
 use Prim.Native.Nat.{ℕ, zero, suc, _+_, _-_, _≤_, _<_}
 use native.Mathlib.Omega.{arith}
-use lib.Dec.{T, ltb, leb, leb→le, le→leb, ltb→lt, lt→ltb}
+use lib.Dec.{T, ltb, leb→le, le→leb}
 use lib.IntN.{ℤ, pos, negsuc, subℕ, _+ℤ_, _-ℤ_, negℤ}
 use lib.Signed.{_≤ℤ_, leZ, ltZ, mag}
 use borrow.Author.Tests.{ltb-true, ltb-false, leb-true, leb-false}

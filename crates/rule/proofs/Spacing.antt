@@ -1,18 +1,17 @@
 -- Each level keeps tree order: of every two neighbours the right one stands at least the separation further right. Assumes nothing.
-use mathlib.Core.Path.{_≡_, refl, sym, ap, ap₂, _∙_, subst, subst₂}
-use mathlib.Core.Logic.{_⊎_, inl, inr, ⊎-elim}
+use mathlib.Core.Path.{_≡_, refl, sym, ap, _∙_, subst, subst₂}
 use mathlib.Core.List.{List, [], _∷_, _++_, map}
-use Prim.Native.Nat.{ℕ, zero, suc, _+_, _-_, _*_, _/_, _≤_, _<_}
-use native.Mathlib.Nat.{mul-le-mul-right, mul-le-mul-left, div-mul-le-self, le-trans, le-refl, mul-comm}
+use Prim.Native.Nat.{ℕ, suc, _+_, _-_, _*_, _/_, _≤_, _<_}
+use native.Mathlib.Nat.{mul-le-mul-right, div-mul-le-self, le-trans, le-refl, mul-comm}
 use native.Mathlib.Omega.{arith}
 use lib.IntN.{ℤ, pos, _+ℤ_, _-ℤ_}
 use Rattle.tree.specs.Forest.{Forest, nil, node}
 use Rattle.tree.specs.Levels.{beside}
 use Rattle.tree.proofs.Counting.{All, all-append}
-use Rattle.rule.specs.Drawing.{Drawing, none, at, width, middle, Dot, dot, dots, rowDots, firstOf, lastOf, leftContour, rightContour}
-use Rattle.rule.specs.Join.{Meeting, above0, shortfall, needed, meet, share, shares, total, start, alone, join, meetings}
-use Rattle.rule.specs.Rule.{drawOnto, draw}
-use Rattle.rule.proofs.Signed.{below0, one-part, parts-add, parts-sub, AtMost}
+use Rattle.rule.specs.Drawing.{Drawing, none, width, middle, Dot, dots, rowDots, firstOf, lastOf, leftContour, rightContour}
+use Rattle.rule.specs.Join.{Meeting, shortfall, needed, meet, share, shares, total, start, alone, join, meetings}
+use Rattle.rule.specs.Rule.{drawOnto}
+use Rattle.rule.proofs.Signed.{parts-add, parts-sub, AtMost}
 use Rattle.rule.proofs.Names.{Some, some, beside-some}
 use Rattle.rule.proofs.Moving.{shiftBy, moveBy, settle, rowDots-join, dots-row, width-join}
 

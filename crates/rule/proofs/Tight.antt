@@ -1,31 +1,31 @@
 -- No slack at the last child: at every node with two or more children, some pair of neighbours, the right one in the last child's subtree
 -- and the left one in an earlier child's, stands exactly at the separation. Assumes nothing.
-use mathlib.Core.Path.{_≡_, refl, sym, ap, ap₂, _∙_, subst, subst₂}
-use mathlib.Core.List.{List, [], _∷_, _++_, map, append-assoc, append-nil, List·Memᴰ, List·Memᴰ·head, List·Memᴰ·tail}
-use Prim.Native.Nat.{ℕ, zero, suc, _+_, _≤_, _<_}
-use native.Mathlib.Nat.{le-trans, not-suc-le-zero}
+use mathlib.Core.Path.{_≡_, refl, sym, ap, _∙_, subst}
+use mathlib.Core.List.{List, [], _∷_, _++_, map, List·Memᴰ, List·Memᴰ·head, List·Memᴰ·tail}
+use Prim.Native.Nat.{ℕ, suc, _+_, _≤_, _<_}
 use native.Mathlib.Omega.{arith}
 use lib.ListN.{length}
 use lib.IntN.{ℤ, pos, _+ℤ_, _-ℤ_}
 use Rattle.tree.specs.Numbers.{count}
 use Rattle.tree.specs.Table.{nodes}
 use Rattle.tree.specs.Forest.{Forest, nil, node, treeOf, preorder, roots, size}
-use Rattle.tree.specs.Levels.{Pair, beside, levels, neighbours}
+use Rattle.tree.specs.Levels.{Pair, beside, levels, together, neighbours}
 use Rattle.tree.specs.Shape.{under}
 use Rattle.tree.specs.WellFormed.{tableNumber}
 use Rattle.tree.proofs.Parts.{Part, whole, in-children, in-siblings}
 use Rattle.tree.proofs.Walked.{join as joinForest}
-use Rattle.rule.specs.Drawing.{Drawing, none, at, width, middle, Dot, dot, dots, rowDots}
+use Rattle.tree.proofs.LevelOf.{count-levels}
+use Rattle.rule.specs.Drawing.{Drawing, none, at, width, middle, Dot, dots, rowDots}
 use Rattle.rule.specs.Join.{above0, Meeting, shares, total, join, measured, meetings, start, alone}
 use Rattle.rule.specs.Rule.{drawOnto, draw, drawn, recordOnto, recorded}
 use Rattle.rule.specs.Record.{pairCount}
 use Rattle.rule.specs.Result.{place}
-use Rattle.rule.proofs.Signed.{below0, parts-add, parts-sub, parts-eq}
+use Rattle.rule.proofs.Signed.{below0, parts-add, parts-eq}
 use Rattle.rule.proofs.Names.{names, names-draw, nodes-dots, nodes-rowDots}
 use Rattle.rule.proofs.Moving.{shiftBy, moveBy, settle, rowDots-join, dots-row}
 use Rattle.rule.proofs.Spacing.{Row, Child, row-drawOnto, row-none, alone-child}
 use Rattle.rule.proofs.Within.{OnLevel, top, down, on-left, on-right, Stands}
-use Rattle.rule.proofs.Lookup.{together, nodesOf, on-together, nodes-together, count-levels, in-count, dot-place}
+use Rattle.rule.proofs.Lookup.{nodesOf, on-together, nodes-together, in-count, dot-place}
 use Rattle.rule.proofs.Exact.{join-exact}
 use Rattle.rule.proofs.Width.{Measured, exact-dots}
 use Rattle.rule.proofs.Promises.{measured-neighbours, stands-at, part-at}

@@ -1,9 +1,9 @@
 -- How wide a drawing is: joining adds at most the separation, so a forest of m nodes spans at most m - 1 separations. Assumes nothing.
 use mathlib.Core.Path.{_≡_, refl, sym, ap, ap₂, _∙_, subst, subst₂}
 use mathlib.Core.Logic.{_⊎_, inl, inr, ⊎-elim}
-use mathlib.Core.List.{List, [], _∷_, _++_, map, List·Memᴰ, List·Memᴰ·head, List·Memᴰ·tail, List·Memᴰ·cases-cons, List·Memᴰ·append-cases, List·Memᴰ·not-nil}
-use Prim.Native.Nat.{ℕ, zero, suc, _+_, _-_, _*_, _≤_, _<_}
-use native.Mathlib.Nat.{le-refl, le-trans, not-suc-le-zero}
+use mathlib.Core.List.{List, [], _∷_, map, List·Memᴰ, List·Memᴰ·head, List·Memᴰ·tail, List·Memᴰ·cases-cons, List·Memᴰ·append-cases, List·Memᴰ·not-nil}
+use Prim.Native.Nat.{ℕ, zero, suc, _+_, _*_, _≤_}
+use native.Mathlib.Nat.{le-trans, not-suc-le-zero}
 use native.Mathlib.Omega.{arith}
 use lib.ListN.{length}
 use lib.IntN.{ℤ, pos, _+ℤ_, _-ℤ_}
@@ -11,7 +11,7 @@ use Rattle.tree.specs.Forest.{Forest, nil, node, size}
 use Rattle.tree.specs.Levels.{beside}
 use Rattle.tree.proofs.Counting.{All, below-or-not}
 use Rattle.tree.proofs.Walked.{size-join}
-use Rattle.rule.specs.Drawing.{Drawing, none, at, width, firstPlace, lastPlace, middle, Dot, dot, dots, rowDots, firstOf, lastOf, leftContour, rightContour}
+use Rattle.rule.specs.Drawing.{Drawing, none, at, width, lastPlace, middle, Dot, dot, dots, rowDots, firstOf, lastOf, leftContour, rightContour}
 use Rattle.rule.specs.Join.{Meeting, above0, shortfall, needed, meet, measure, shares, total, start, alone, join, meetings}
 use Rattle.rule.specs.Rule.{drawOnto, draw}
 use Rattle.rule.specs.Record.{isPair, pairCount}

@@ -1,9 +1,9 @@
 -- A drawing within a drawing: what is drawn below a node stays as it was drawn, and its dots stand on the levels below that node, moved as
 -- one piece. Assumes nothing.
 use mathlib.Core.Path.{_≡_, refl, sym, ap, ap₂, _∙_, subst}
-use mathlib.Core.List.{List, [], _∷_, _++_, map, List·Memᴰ, List·Memᴰ·head, Memᴰ·append-left, Memᴰ·append-right}
-use Prim.Native.Nat.{ℕ, zero, suc, _+_}
-use native.Mathlib.Nat.{add-zero, zero-add, add-suc, suc-add}
+use mathlib.Core.List.{List, [], _∷_, List·Memᴰ, List·Memᴰ·head, Memᴰ·append-left, Memᴰ·append-right}
+use Prim.Native.Nat.{ℕ, suc, _+_}
+use native.Mathlib.Nat.{zero-add, suc-add}
 use native.Mathlib.Omega.{arith}
 use lib.IntN.{ℤ, pos, _+ℤ_, _-ℤ_}
 use Rattle.tree.specs.Forest.{Forest, nil, node}
@@ -17,7 +17,7 @@ use Rattle.rule.proofs.Names.{names}
 use Rattle.rule.proofs.Spacing.{all-weaken}
 use Rattle.rule.proofs.Shapes.{blank, blank-middle}
 use Rattle.rule.specs.Drawing.{Drawing, none, at, width, append, firstPlace, middle, Dot, dot, dots}
-use Rattle.rule.specs.Join.{Meeting, shares, spread, alone, join, meetings, settled}
+use Rattle.rule.specs.Join.{Meeting, spread, alone, join, meetings, settled}
 use Rattle.rule.specs.Rule.{drawOnto, draw}
 
 -- ---- the drawing below node v is b

@@ -2,11 +2,11 @@
 -- level are those of what has been moved. The join that the rule uses moves the go-betweens at the end; the two give one drawing.
 use Prim.Native.Nat.{ℕ, zero, suc, _+_}
 use mathlib.Core.List.{List, [], _∷_}
-use lib.IntN.{ℤ, pos, _+ℤ_}
+use lib.IntN.{pos}
 use lib.ListN.{length, drop}
 use Rattle.tree.specs.Forest.{Forest, nil, node}
-use Rattle.rule.specs.Drawing.{Drawing, none, at, width, append, Dot, dots, leftContour}
-use Rattle.rule.specs.Join.{Meeting, needed, shortfall, spread, start, alone, rowContour}
+use Rattle.rule.specs.Drawing.{Drawing, none, width, append, Dot, dots, leftContour}
+use Rattle.rule.specs.Join.{needed, shortfall, spread, start, alone, rowContour}
 
 -- a row, and the place of the child that is being joined to it
 pub record Joining : Type 0 where

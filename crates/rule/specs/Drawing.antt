@@ -1,6 +1,6 @@
 -- Drawings. A drawing is a row of siblings, as a forest is: each node has its place in its row, counted from the row's first node, and
 -- the drawing of its children. A subtree moves with its root, since nothing below the root says where the root stands.
-use Prim.Native.Nat.{ℕ, zero, suc, _+_, _-_, _/_}
+use Prim.Native.Nat.{ℕ, suc, _+_, _-_, _/_}
 use mathlib.Core.List.{List, [], _∷_, map}
 use lib.IntN.{ℤ, pos, _+ℤ_, _-ℤ_}
 use Rattle.tree.specs.Levels.{beside}

@@ -1,9 +1,9 @@
 -- Joining the next child to a row of children: the walk down two contours, and what it moves.
-use Prim.Native.Nat.{ℕ, zero, suc, _+_, _-_, _*_, _/_}
+use Prim.Native.Nat.{ℕ, _+_, _-_, _*_, _/_}
 use mathlib.Core.List.{List, [], _∷_}
 use lib.IntN.{ℤ, pos, negsuc, _+ℤ_, _-ℤ_}
 use Rattle.tree.specs.Levels.{Pair}
-use Rattle.rule.specs.Drawing.{Drawing, none, at, width, append, lastPlace, Dot, dots, rowDots, leftContour, rightContour}
+use Rattle.rule.specs.Drawing.{Drawing, none, at, width, append, Dot, dots, rowDots, leftContour, rightContour}
 
 -- the distance that two neighbours need: the separation
 abbrev pub needed : ℕ → ℕ → ℕ → ℕ

@@ -1,5 +1,5 @@
 -- What the layout of a table gives, for every input.
-use Prim.Native.Nat.{ℕ, zero, suc, _*_}
+use Prim.Native.Nat.{ℕ, _*_}
 use mathlib.Core.Path.{_≡_}
 use mathlib.Core.Bool.{Bool, cond, not, _||_, _&&_}
 use mathlib.Core.List.{List, [], _∷_, _++_, map}
@@ -7,13 +7,13 @@ use lib.Dec.{eqb, ltb, leb}
 use lib.IntN.{ℤ, pos}
 use lib.Signed.{leZ}
 use lib.ListN.{length, replicate}
-use Rattle.refusal.specs.First.{Condition, _⇐_, first}
+use Rattle.refusal.specs.First.{_⇐_, first}
 use Rattle.refusal.specs.After.{granted, after}
-use Rattle.tree.specs.Numbers.{upTo, flatMap}
+use Rattle.tree.specs.Numbers.{upTo}
 use Rattle.tree.specs.Table
 use Rattle.tree.specs.Levels
 use Rattle.tree.specs.Table.{nodes}
-use Rattle.tree.specs.Levels.{Pair, level, levelCount, neighbours}
+use Rattle.tree.specs.Levels.{together, Pair, level, levelCount, neighbours}
 use Rattle.tree.specs.WellFormed.{tableConditions}
 use Rattle.rule.specs.Drawing.{Dot}
 use Rattle.rule.specs.Rule.{drawn}
@@ -28,7 +28,7 @@ placeIn (e ∷ l) v = cond (eqb v (e .node)) (e .place) (placeIn l v)
 
 -- the place of node v in a table's drawing
 unfoldable pub place : ℕ → List ℕ → ℕ → ℤ
-place separation t v = placeIn (flatMap (λ l. l) (drawn separation t)) v
+place separation t v = placeIn (together (drawn separation t)) v
 
 -- places and levels by node number
 unfoldable pub placesOf : ℕ → List ℕ → List ℤ

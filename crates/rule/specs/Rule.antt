@@ -1,10 +1,10 @@
 -- Where a node stands. Each subtree is drawn on its own first, and the children of a node are joined left to right.
-use Prim.Native.Nat.{ℕ, zero, suc}
-use mathlib.Core.List.{List, [], _∷_, _++_}
-use lib.IntN.{ℤ, pos}
+use Prim.Native.Nat.{ℕ}
+use mathlib.Core.List.{List, [], _++_}
+use lib.IntN.{pos}
 use Rattle.tree.specs.Levels.{Pair}
 use Rattle.tree.specs.Forest.{Forest, nil, node, treeOf}
-use Rattle.rule.specs.Drawing.{Drawing, none, at, Dot, dots}
+use Rattle.rule.specs.Drawing.{Drawing, none, Dot, dots}
 use Rattle.rule.specs.Join.{join, measured}
 
 -- the children of a forest joined, one after the other, to a row

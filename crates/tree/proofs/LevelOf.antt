@@ -6,10 +6,10 @@ use mathlib.Core.List.{List, [], _∷_, _++_}
 use Prim.Native.Nat.{ℕ, suc, _+_, _≤_, _<_}
 use native.Mathlib.Nat.{not-suc-le-zero}
 use native.Mathlib.Omega.{arith}
-use Rattle.tree.specs.Numbers.{count, member, flatMap}
+use Rattle.tree.specs.Numbers.{count, member}
 use Rattle.tree.specs.Table.{nodes, firstChild, nextSibling}
 use Rattle.tree.specs.Forest.{Forest, nil, node, forest, treeOf, preorder, roots, entry}
-use Rattle.tree.specs.Levels.{childrenOf, beside, levels, levelIn, level}
+use Rattle.tree.specs.Levels.{childrenOf, beside, levels, together, levelIn, level}
 use Rattle.tree.specs.WellFormed.{tableNumber}
 use Rattle.tree.proofs.Counting.{is-same, count-append}
 use Rattle.tree.proofs.Tests.{true-or-false, member-count, member-none, count-member, none-member, member-append, member-all}
@@ -18,26 +18,23 @@ use Rattle.tree.proofs.Stands.{accepted-numbers}
 use Rattle.tree.proofs.Walked.{oneDown, levels-down}
 use Rattle.tree.proofs.Followed.{followed-part}
 
--- ---- how often a node occurs
+-- ---- how often a number occurs
 
--- all the nodes of some levels
-abbrev flat : List (List ℕ) → List ℕ
-flat = flatMap (λ l. l)
-
-count-beside : (x : ℕ) (xs ys : List (List ℕ)) → count x (flat (beside xs ys)) ≡ count x (flat xs) + count x (flat ys)
+count-beside : (x : ℕ) (xs ys : List (List ℕ)) → count x (together (beside xs ys)) ≡ count x (together xs) + count x (together ys)
 count-beside x [] ys = omega arith
 count-beside x (l ∷ xs) [] = omega arith
 count-beside x (l ∷ xs) (m ∷ ys) =
     omega (
       arith,
-      count-append x (l ++ m) (flat (beside xs ys)),
+      count-append x (l ++ m) (together (beside xs ys)),
       count-append x l m,
       count-beside x xs ys,
-      count-append x l (flat xs),
-      count-append x m (flat ys),
+      count-append x l (together xs),
+      count-append x m (together ys),
     )
 
-count-levels : (x : ℕ) (f : Forest) → count x (flat (levels f)) ≡ count x (preorder f)
+-- a number occurs on the levels of a forest as often as in the forest
+pub count-levels : (x : ℕ) (f : Forest) → count x (together (levels f)) ≡ count x (preorder f)
 count-levels x nil = refl
 count-levels x (node v f g) =
     omega (arith, count-beside x ((v ∷ []) ∷ levels f) (levels g), count-levels x f, count-levels x g, count-append x (preorder f) (preorder g))
@@ -52,27 +49,27 @@ module _ (x : ℕ) where
   level-below l ls e = ap (λ (b : Bool). cond b 0 (suc (levelIn ls x))) e
 
   -- two forests side by side, of which one has the node
-  level-left : (xs ys : List (List ℕ)) → 1 ≤ count x (flat xs) → count x (flat ys) ≡ 0 → levelIn (beside xs ys) x ≡ levelIn xs x
+  level-left : (xs ys : List (List ℕ)) → 1 ≤ count x (together xs) → count x (together ys) ≡ 0 → levelIn (beside xs ys) x ≡ levelIn xs x
   level-left [] ys h e = absurd (not-suc-le-zero h)
   level-left (l ∷ xs) [] h e = refl
   level-left (l ∷ xs) (m ∷ ys) h e =
-      let out : member x m ≡ false = none-member x m (omega (arith, count-append x m (flat ys))) in
+      let out : member x m ≡ false = none-member x m (omega (arith, count-append x m (together ys))) in
       ⊎-elim (λ i. level-here (l ++ m) (beside xs ys) (member-append x l m ∙ ap₂ _||_ i out) ∙ sym (level-here l xs i))
       (λ i.
       level-below (l ++ m) (beside xs ys) (member-append x l m ∙ ap₂ _||_ i out)
-      ∙ ap suc (level-left xs ys (omega (arith, count-append x l (flat xs), member-none x l i)) (omega (arith, count-append x m (flat ys))))
+      ∙ ap suc (level-left xs ys (omega (arith, count-append x l (together xs), member-none x l i)) (omega (arith, count-append x m (together ys))))
       ∙ sym (level-below l xs i))
       (true-or-false (member x l))
 
-  level-right : (xs ys : List (List ℕ)) → count x (flat xs) ≡ 0 → 1 ≤ count x (flat ys) → levelIn (beside xs ys) x ≡ levelIn ys x
+  level-right : (xs ys : List (List ℕ)) → count x (together xs) ≡ 0 → 1 ≤ count x (together ys) → levelIn (beside xs ys) x ≡ levelIn ys x
   level-right [] ys e h = refl
   level-right (l ∷ xs) [] e h = absurd (not-suc-le-zero h)
   level-right (l ∷ xs) (m ∷ ys) e h =
-      let out : member x l ≡ false = none-member x l (omega (arith, count-append x l (flat xs))) in
+      let out : member x l ≡ false = none-member x l (omega (arith, count-append x l (together xs))) in
       ⊎-elim (λ i. level-here (l ++ m) (beside xs ys) (member-append x l m ∙ ap₂ _||_ out i) ∙ sym (level-here m ys i))
       (λ i.
       level-below (l ++ m) (beside xs ys) (member-append x l m ∙ ap₂ _||_ out i)
-      ∙ ap suc (level-right xs ys (omega (arith, count-append x l (flat xs))) (omega (arith, count-append x m (flat ys), member-none x m i)))
+      ∙ ap suc (level-right xs ys (omega (arith, count-append x l (together xs))) (omega (arith, count-append x m (together ys), member-none x m i)))
       ∙ sym (level-below m ys i))
       (true-or-false (member x m))
 

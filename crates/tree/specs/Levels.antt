@@ -38,6 +38,10 @@ abbrev pub levels : Forest → List (List ℕ)
 levels nil = []
 levels (node v below after) = beside ((v ∷ []) ∷ levels below) (levels after)
 
+-- all the levels in a row
+abbrev pub together {ℓ} : {A : Type ℓ} → List (List A) → List A
+together = flatMap (λ l. l)
+
 unfoldable pub levelCount : List ℕ → ℕ
 levelCount t = length (levels (treeOf t))
 
