@@ -9,12 +9,13 @@ use native.Mathlib.Nat.{not-suc-le-zero, le-of-suc-le-suc}
 use native.Mathlib.Numerals.{add-one}
 use native.Mathlib.Omega.{arith}
 use lib.Dec.{eqb}
-use lib.ListN.{length, getD, take, set, replicate, length-set, length-replicate, getD-replicate}
+use lib.ListN.{length, getD, take, set, length-set}
 use lib.Seq.{take-suc, take-all, getD-set-same, getD-set-other}
 use borrow.Author.Tests.{eq-eqb, ne-eqb}
 use Rattle.tree.specs.Numbers.{is, count}
 use Rattle.tree.specs.Table.{none, nodes}
 use Rattle.tree.specs.WellFormed.{badLength, badEntry, namedTwice}
+use Rattle.tree.specs.Steps.{Unmarked}
 use Rattle.tree.proofs.Counting.{is-other, is-cases, count-append, All, all-append, sumBelow, sumBelow-add, sumBelow-zero, sumBelow-cong, sumBelow-term, sumBelow-single}
 use Rattle.tree.proofs.Tests.{true-false, true-or-false, all-at}
 use Rattle.tree.proofs.Linked.{Names}
@@ -32,35 +33,35 @@ naming t i v = is v 0 + count v (take i t)
 
 -- where the pass has come to
 pub record Scanning (t named : List ℕ) (repeats i : ℕ) : Type 0 where
-  pub size : length named ≡ 1024
+  pub size : nodes t ≤ length named
   pub within : i ≤ length t
   pub good : All (Names (nodes t)) (take i t)
   pub few : repeats ≤ i
   pub marks : (v : ℕ) → v < nodes t → getD named v 0 ≡ min 1 (naming t i v)
   pub sum : repeats ≡ sumBelow (nodes t) (λ v. naming t i v - 1)
 
-module _ (t : List ℕ) (ok : badLength t ≡ false) where
-  few-nodes : nodes t ≤ 1024
-  few-nodes = omega (arith, good-length t ok .2)
+module _ (t marks : List ℕ) (ok : badLength t ≡ false) (U : Unmarked (nodes t) marks) where
+  pub some-marks : 0 < length marks
+  some-marks = omega (arith, good-length t ok .0, good-length t ok .1, U .enough)
 
-  pub scan-start : Scanning t (set (replicate 1024 0) 0 1) 0 0
+  pub scan-start : Scanning t (set marks 0 1) 0 0
   scan-start =
       record {
-        size = length-set {A = ℕ} (replicate 1024 0) 0 1 ∙ length-replicate {A = ℕ} 1024 0;
+        size = omega (arith, length-set marks 0 1, U .enough);
         within = omega arith;
         good = tt;
         few = omega arith;
-        marks = marks;
+        marks = first-set;
         sum = sym (sumBelow-cong (nodes t) (λ v. naming t 0 v - 1) (λ v. 0) (λ v h. none-yet v) ∙ sumBelow-zero (nodes t));
       }
     where
       none-yet : (v : ℕ) → naming t 0 v - 1 ≡ 0
       none-yet v = ⊎-elim (λ s. omega (arith, s .1)) (λ s. omega (arith, s .1)) (is-cases v 0)
 
-      marks : (v : ℕ) → v < nodes t → getD (set (replicate 1024 0) 0 1) v 0 ≡ min 1 (naming t 0 v)
-      marks v h =
-          ⊎-elim (λ s. ap (λ (x : ℕ). getD (set (replicate 1024 0) 0 1) x 0) (s .0) ∙ omega (arith, s .1))
-          (λ s. getD-set-other {A = ℕ} (replicate 1024 0) 0 v 1 0 (s .0) ∙ getD-replicate {A = ℕ} 1024 v 0 0 (omega (arith, few-nodes)) ∙ omega (arith, s .1))
+      first-set : (v : ℕ) → v < nodes t → getD (set marks 0 1) v 0 ≡ min 1 (naming t 0 v)
+      first-set v h =
+          ⊎-elim (λ s. ap (λ (x : ℕ). getD (set marks 0 1) x 0) (s .0) ∙ getD-set-same marks 0 1 0 some-marks ∙ omega (arith, s .1))
+          (λ s. getD-set-other marks 0 v 1 0 (s .0) ∙ U .clear v h ∙ omega (arith, s .1))
           (is-cases v 0)
 
 module _ (t named : List ℕ) (repeats i : ℕ) (S : Scanning t named repeats i) (inside : i < length t) where
@@ -89,7 +90,7 @@ module _ (t named : List ℕ) (repeats i : ℕ) (S : Scanning t named repeats i)
   pub scan-mark : getD t i 0 < nodes t → nodes t ≤ 1024 → Scanning t (set named (getD t i 0) 1) (repeats + getD named (getD t i 0) 0) (i + 1)
   scan-mark below few =
       record {
-        size = length-set named e 1 ∙ S .size;
+        size = omega (arith, length-set named e 1, S .size);
         within = omega arith;
         good = subst (All (Names (nodes t))) (sym taken) (all-append (Names (nodes t)) (take i t) (e ∷ []) (S .good) (inl below, tt));
         few = omega (arith, S .few, S .marks e below);

@@ -8,10 +8,19 @@ use lib.ListN.{length, getD, take, set}
 use Rattle.tree.specs.Table.{none, nodes}
 use Rattle.tree.specs.Forest.{treeOf, size, preorder}
 use Rattle.tree.specs.Levels.{childrenOf}
-use Rattle.tree.specs.WellFormed.{badEntry, namedTwice, tableNumber}
+use Rattle.tree.specs.WellFormed.{badLength, badEntry, namedTwice, tableNumber}
 use Rattle.tree.specs.Operations.{renumbered, oldNumbers}
 
 -- ---- table check
+
+-- a mark for each of n nodes, and none is set
+pub record Unmarked (n : ℕ) (marks : List ℕ) : Type 0 where
+  pub enough : n ≤ length marks
+  pub clear : (v : ℕ) → v < n → getD marks v 0 ≡ 0
+
+-- a slice has an entry for each node of a table of good length
+pub record Room (t order : List ℕ) : Type 0 where
+  pub enough : badLength t ≡ false → nodes t ≤ length order
 
 -- one pass over the entries: whether one is bad, and, where none is, whether a node is named twice
 pub record Scanned (t : List ℕ) (b r : Bool) : Type 0 where

@@ -4,8 +4,15 @@ ghost use mathlib.Core.Bool.{false};
 ghost use Prim.Native.Nat.{_≤_, _<_};
 ghost use lib.ListN.{length};
 ghost use Rattle.tree.specs.Table.{none, nodes};
-ghost use Rattle.tree.specs.WellFormed.{badLength, Passed};
-ghost use Rattle.tree.specs.Steps.{Scanned, Pushed, Visited, Judged};
+ghost use Rattle.tree.specs.WellFormed.{badLength, Passed, tableNumber};
+ghost use Rattle.tree.specs.Steps.{Unmarked, Room, Scanned, Pushed, Visited, Judged};
+
+// A table of at most this many entries, and so of this many nodes, has small arrays: it does not pay for clearing large ones.
+pub const SMALL_ENTRIES: usize = 128;
+
+pub const SMALL_NODES: usize = 64;
+
+pub const MOST_NODES: usize = 1024;
 
 pub struct Found {
     pub bad: bool,
@@ -13,12 +20,12 @@ pub struct Found {
 }
 
 // Conditions 2 and 4, in one pass over the entries. `named` marks the nodes that an entry named so far, and the root from the start.
-fn scan(table: &[u16]) -> Found
+fn scan(table: &[u16], named: &mut [u8]) -> Found
     requires { ⌜ badLength (now table) ≡ false ⌝ }
+    requires { ⌜ Unmarked (nodes (now table)) (now named) ⌝ }
     ensures { λ r. ⌜ Scanned (now (table .entry)) (r .bad) (r .repeated) ⌝ }
 {
     let n = table.len() / 2;
-    let mut named = [0u8; 1024];
     named[0] = 1;
     let mut repeats: usize = 0;
     let mut i = 0;
@@ -40,6 +47,19 @@ fn scan(table: &[u16]) -> Found
         bad: false,
         repeated: repeats != 0,
     }
+}
+
+// Conditions 2 and 4, with as many marks as the table needs.
+fn scan_marked(table: &[u16]) -> Found
+    requires { ⌜ badLength (now table) ≡ false ⌝ }
+    ensures { λ r. ⌜ Scanned (now (table .entry)) (r .bad) (r .repeated) ⌝ }
+{
+    if table.len() <= SMALL_ENTRIES {
+        let mut named = [0u8; SMALL_NODES];
+        return scan(table, &mut named);
+    }
+    let mut named = [0u8; MOST_NODES];
+    scan(table, &mut named)
 }
 
 // Puts an entry that names a node on the stack whose top is at `low`, and says where the top is now.
@@ -81,14 +101,14 @@ fn preorder(table: &[u16], order: &mut [u16]) -> usize
 
 // The number of a table. Where it is 0, `order` then begins with the table's nodes in preorder.
 pub fn judge(table: &[u16], order: &mut [u16]) -> u16
-    requires { ⌜ 1024 ≤ length (now order) ⌝ }
+    requires { ⌜ Room (now table) (now order) ⌝ }
     ensures { λ r. ⌜ Judged (now (table .entry)) r (now (order .exit)) ⌝ }
 {
     let entries = table.len();
     if entries % 2 == 1 || entries == 0 || 2048 < entries {
         return 1;
     }
-    let scanned = scan(table);
+    let scanned = scan_marked(table);
     if scanned.bad {
         return 2;
     }
@@ -104,4 +124,16 @@ pub fn judge(table: &[u16], order: &mut [u16]) -> u16
         return 5;
     }
     0
+}
+
+// The number of a table.
+pub fn number_of(table: &[u16]) -> u16
+    ensures { λ r. ⌜ r ≡ tableNumber (now (table .entry)) ⌝ }
+{
+    if table.len() <= SMALL_ENTRIES {
+        let mut order = [0u16; SMALL_NODES];
+        return judge(table, &mut order);
+    }
+    let mut order = [0u16; MOST_NODES];
+    judge(table, &mut order)
 }

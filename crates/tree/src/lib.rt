@@ -1,9 +1,14 @@
 // Tree tables: check, mirror, renumber.
 ghost use Rattle.tree.specs.Operations.{CheckTable, Mirror, Renumber};
+ghost use Rattle.tree.specs.Steps.{Room};
 
 mod judge;
 mod relink;
 mod turn;
+
+use judge::MOST_NODES;
+use judge::SMALL_ENTRIES;
+use judge::SMALL_NODES;
 
 pub struct Checked {
     pub number: u16,
@@ -14,8 +19,7 @@ pub struct Checked {
 pub fn check_table(table: &[u16]) -> Checked
     ensures { λ r. ⌜ CheckTable (now (table .entry)) (r .number) (r .nodes) ⌝ }
 {
-    let mut order = [0u16; 1024];
-    let number = judge::judge(table, &mut order);
+    let number = judge::number_of(table);
     if number != 0 {
         return Checked { number, nodes: 0 };
     }
@@ -29,8 +33,7 @@ pub fn check_table(table: &[u16]) -> Checked
 pub fn mirror(table: &[u16], out: &mut [u16]) -> u16
     ensures { λ r. ⌜ Mirror (now (table .entry)) (now (out .entry)) r (now (out .exit)) ⌝ }
 {
-    let mut order = [0u16; 1024];
-    let number = judge::judge(table, &mut order);
+    let number = judge::number_of(table);
     if number != 0 {
         return number;
     }
@@ -46,8 +49,20 @@ pub fn mirror(table: &[u16], out: &mut [u16]) -> u16
 pub fn renumber(table: &[u16], out: &mut [u16], map: &mut [u16]) -> u16
     ensures { λ r. ⌜ Renumber (now (table .entry)) (now (out .entry)) (now (map .entry)) r (now (out .exit)) (now (map .exit)) ⌝ }
 {
-    let mut order = [0u16; 1024];
-    let number = judge::judge(table, &mut order);
+    if table.len() <= SMALL_ENTRIES {
+        let mut order = [0u16; SMALL_NODES];
+        return renumber_in(table, &mut order, out, map);
+    }
+    let mut order = [0u16; MOST_NODES];
+    renumber_in(table, &mut order, out, map)
+}
+
+// The same, with room for the nodes in preorder.
+fn renumber_in(table: &[u16], order: &mut [u16], out: &mut [u16], map: &mut [u16]) -> u16
+    requires { ⌜ Room (now table) (now order) ⌝ }
+    ensures { λ r. ⌜ Renumber (now (table .entry)) (now (out .entry)) (now (map .entry)) r (now (out .exit)) (now (map .exit)) ⌝ }
+{
+    let number = judge::judge(table, order);
     if number != 0 {
         return number;
     }

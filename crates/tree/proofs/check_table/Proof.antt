@@ -11,27 +11,24 @@ use Rattle.tree.proofs.Number.{refused-none}
 use Rattle.tree.proofs.check_table.Statement.{statement}
 use Rattle.tree.proofs.check_table.Tie as tie
 
-slice-aggregate-judge : tie.Need-slice-aggregate-judge
-slice-aggregate-judge c = search needs
-
-judge-requires : tie.Need-judge-requires
-judge-requires c κs = search needs
+number-of-requires : tie.Need-number-of-requires
+number-of-requires c κs = search needs
 
 returns : tie.Need-returns
 returns c =
-    let judged = c .before .before .judge .ensures .number in
+    let judged = c .before .number-of .ensures in
     record { number = judged; nodes = refused-none (tableNumber _) _ (λ e. c .if1 .taken (judged ∙ e)) }
 
 -- past the test of the number
 module _ (p : tie.Else1) where
   abbrev start : tie.Start
-  start = p .before .before .before .before .before
+  start = p .before .before .before
 
   accepted : tableNumber (start .args .table .now) ≡ 0
-  accepted = sym (p .before .before .judge .ensures .number) ∙ p .if1 .left
+  accepted = sym (p .before .number-of .ensures) ∙ p .if1 .left
 
-cast-t9 : tie.Need-cast-t9
-cast-t9 c = omega (arith, accepted-linked (start c .args .table .now) (accepted c) .few)
+cast-t6 : tie.Need-cast-t6
+cast-t6 c = omega (arith, accepted-linked (start c .args .table .now) (accepted c) .few)
 
 returns-2 : tie.Need-returns-2
 returns-2 c =
@@ -42,4 +39,4 @@ returns-2 c =
 
 pub check-table-spec : {M : Type 1} → statement M
 check-table-spec =
-    tie.close (tie.spec slice-aggregate-judge judge-requires returns cast-t9 returns-2)
+    tie.close (tie.spec number-of-requires returns cast-t6 returns-2)

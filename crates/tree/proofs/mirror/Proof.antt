@@ -7,24 +7,21 @@ use Rattle.tree.proofs.Answers.{mirror-refused, mirror-short, mirror-ac
 use Rattle.tree.proofs.mirror.Statement.{statement}
 use Rattle.tree.proofs.mirror.Tie as tie
 
-slice-aggregate-judge : tie.Need-slice-aggregate-judge
-slice-aggregate-judge c = search needs
-
-judge-requires : tie.Need-judge-requires
-judge-requires c κs = search needs
+number-of-requires : tie.Need-number-of-requires
+number-of-requires c κs = search needs
 
 returns : tie.Need-returns
 returns c =
-    let p = c .before .before in
-    mirror-refused _ _ (p .judge .result) (p .judge .ensures .number) (c .if1 .taken)
+    let p = c .before in
+    mirror-refused _ _ (p .number-of .result) (p .number-of .ensures) (c .if1 .taken)
 
 -- past the test of the table
 module _ (p : tie.Else1) where
   abbrev start : tie.Start
-  start = p .before .before .before .before .before .before
+  start = p .before .before .before .before
 
   accepted : tableNumber (start .args .table .now) ≡ 0
-  accepted = sym (p .before .before .judge .ensures .number) ∙ p .if1 .left
+  accepted = sym (p .before .number-of .ensures) ∙ p .if1 .left
 
 returns-2 : tie.Need-returns-2
 returns-2 c = mirror-short _ _ (accepted (c .before)) (c .if2 .taken)
@@ -50,8 +47,7 @@ pub mirror-spec : {M : Type 1} → statement M
 mirror-spec =
     tie.close
     (tie.spec
-    slice-aggregate-judge
-    judge-requires
+    number-of-requires
     returns
     returns-2
     slice-relend-prefix-turn

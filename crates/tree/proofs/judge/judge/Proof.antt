@@ -45,7 +45,7 @@ module _ (c : tie.Else4) where
   sized = c .before .before
 
   entries-ok : badEntry (table sized) ≡ false
-  entries-ok = sym (c .before .scan .ensures .bad) ∙ c .if4 .left
+  entries-ok = sym (c .before .scan-marked .ensures .bad) ∙ c .if4 .left
 
 -- past the test of the root
 module _ (c : tie.Else5) where
@@ -69,12 +69,12 @@ module _ (c : tie.Else6) where
         size = length-ok first;
         entries = entries-ok (filled rooted);
         root = root-ok rooted;
-        named = sym (filled rooted .before .scan .ensures .repeated (filled rooted .if4 .left)) ∙ c .if6 .left;
+        named = sym (filled rooted .before .scan-marked .ensures .repeated (filled rooted .if4 .left)) ∙ c .if6 .left;
       }
 
   -- the part of the order that is lent has as many entries as there are nodes
   room : nodes (table first) ≤ length (start first .args .order .now)
-  room = omega (arith, linked (table first) passed .few, start first .pre)
+  room = start first .pre .enough (length-ok first)
 
 -- a refusal promises nothing of the order
 refused : (t : List ℕ) (k : ℕ) (order : List ℕ) → tableNumber t ≡ suc k → Judged t (suc k) order
@@ -87,13 +87,13 @@ returns c =
     (⊎-elim (λ w. inr (inl (eqb-true (length t) 0 (w .1 .taken)))) (λ w. inr (inr (ltb-true 2048 (length t) (w .2 .taken)))))
     (c .if1 .came))))
 
-scan-requires : tie.Need-scan-requires
-scan-requires c κs = length-ok c
+scan-marked-requires : tie.Need-scan-marked-requires
+scan-marked-requires c κs = length-ok c
 
 returns-2 : tie.Need-returns-2
 returns-2 c =
     let p = c .before .before in
-    refused (table p) 1 _ (number-2 (table p) (length-ok p) (sym (c .before .scan .ensures .bad) ∙ c .if4 .taken))
+    refused (table p) 1 _ (number-2 (table p) (length-ok p) (sym (c .before .scan-marked .ensures .bad) ∙ c .if4 .taken))
 
 shared-slice-read-if5 : tie.Need-shared-slice-read-if5
 shared-slice-read-if5 c =
@@ -114,7 +114,7 @@ returns-4 c =
     let q = filled r in
     let p = sized q in
     refused (table p) 3 _ (number-4 (table p) (length-ok p) (entries-ok q) (root-ok r)
-    (sym (q .before .scan .ensures .repeated (q .if4 .left)) ∙ c .if6 .taken))
+    (sym (q .before .scan-marked .ensures .repeated (q .if4 .left)) ∙ c .if6 .taken))
 
 slice-relend-prefix-preorder : tie.Need-slice-relend-prefix-preorder
 slice-relend-prefix-preorder c = room c
@@ -159,7 +159,7 @@ judge-spec =
     tie.close
     (tie.spec
     returns
-    scan-requires
+    scan-marked-requires
     returns-2
     shared-slice-read-if5
     returns-3

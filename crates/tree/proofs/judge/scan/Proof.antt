@@ -1,23 +1,23 @@
 -- `tree::judge::scan` meets its contract: each turn takes one entry. Assumes nothing.
-use mathlib.Core.Path.{sym, subst₂}
+use mathlib.Core.Path.{_≡_, refl, sym, _∙_, subst₂}
 use mathlib.Core.Logic.{⊎-elim}
 use mathlib.Core.List.{List}
 use Prim.Native.Nat.{ℕ, _+_, _-_, _≤_}
 use native.Mathlib.Omega.{arith}
-use lib.ListN.{length, getD}
+use lib.ListN.{length, getD, set, length-set}
 use borrow.Author.Needs.{needs}
 use Rattle.tree.specs.Table.{nodes}
 use Rattle.tree.proofs.Accepted.{good-length}
 use Rattle.tree.proofs.Tests.{true-false}
-use Rattle.tree.proofs.Scan.{Scanning, scan-start, scan-skip, scan-mark, scan-bad, scan-good, scan-repeated}
+use Rattle.tree.proofs.Scan.{Scanning, some-marks, scan-start, scan-skip, scan-mark, scan-bad, scan-good, scan-repeated}
 use Rattle.tree.proofs.judge.scan.Statement.{statement}
 use Rattle.tree.proofs.judge.scan.Tie as tie
 
 abbrev Inv-loop : tie.InvT-loop
-Inv-loop table n named₀ repeats₀ i₀ named repeats i = Scanning table named repeats i
+Inv-loop table named₀ n repeats₀ i₀ named repeats i = (length named ≡ length named₀) × Scanning table named repeats i
 
 abbrev μ-loop : tie.MeasureT-loop
-μ-loop table n named₀ repeats₀ i₀ named repeats i = length table - i
+μ-loop table named₀ n repeats₀ i₀ named repeats i = length table - i
 
 -- at the function's start
 module _ (s : tie.Start Inv-loop μ-loop) where
@@ -25,13 +25,13 @@ module _ (s : tie.Start Inv-loop μ-loop) where
   table = s .args .table .now
 
   few : nodes table ≤ 1024
-  few = omega (arith, good-length table (s .pre) .2)
+  few = omega (arith, good-length table (s .pre .0) .2)
 
-array-write-named : tie.Need-array-write-named Inv-loop μ-loop
-array-write-named c = omega arith
+slice-write-named : tie.Need-slice-write-named Inv-loop μ-loop
+slice-write-named c = some-marks (table c) _ (c .pre .0) (c .pre .1)
 
 loop-holds : tie.Need-loop-holds Inv-loop μ-loop
-loop-holds c = scan-start (table c) (c .pre)
+loop-holds c = (refl, scan-start (table c) _ (c .pre .0) (c .pre .1))
 
 mul-e : tie.Need-mul-e Inv-loop μ-loop
 mul-e c = search needs
@@ -41,6 +41,9 @@ shared-slice-read-e c = omega arith
 
 cast-e : tie.Need-cast-e Inv-loop μ-loop
 cast-e c = omega (arith, c .shared-slice-known .given (c .before .before .loop .i))
+
+same-length : tie.Need-same-length Inv-loop μ-loop
+same-length c = let p = c .before .before .before .before in p .loop .inv .0 ∙ length-set (p .before .args .named .now) 0 1
 
 returns : tie.Need-returns Inv-loop μ-loop
 returns c =
@@ -61,17 +64,17 @@ module _ (c : tie.Else2 Inv-loop μ-loop) where
   abbrev entry : ℕ
   entry = getD (table start) (turn .before .loop .i) 0
 
-array-read-repeats : tie.Need-array-read-repeats Inv-loop μ-loop
-array-read-repeats c = omega (arith, few (start c))
+slice-read-repeats : tie.Need-slice-read-repeats Inv-loop μ-loop
+slice-read-repeats c = omega (arith, turn (c .before) .before .loop .inv .1 .size)
 
 cast-repeats : tie.Need-cast-repeats Inv-loop μ-loop
-cast-repeats c = omega (arith, turn c .before .loop .inv .marks (entry c) (c .if2 .left))
+cast-repeats c = omega (arith, turn (c .before) .before .loop .inv .1 .marks (entry (c .before)) (c .before .if2 .left))
 
 add-repeats : tie.Need-add-repeats Inv-loop μ-loop
-add-repeats c = omega (arith, turn c .before .loop .inv .marks (entry c) (c .if2 .left))
+add-repeats c = omega (arith, turn (c .before) .before .loop .inv .1 .marks (entry (c .before)) (c .before .if2 .left))
 
-array-write-named-2 : tie.Need-array-write-named-2 Inv-loop μ-loop
-array-write-named-2 c = omega (arith, few (start c))
+slice-write-named-2 : tie.Need-slice-write-named-2 Inv-loop μ-loop
+slice-write-named-2 c = omega (arith, turn (c .before) .before .loop .inv .1 .size)
 
 add-i : tie.Need-add-i Inv-loop μ-loop
 add-i c = search needs
@@ -86,19 +89,24 @@ loop-again c =
     let i = p .loop .i in
     let inside = c .before .before .loop-test .taken in
     ⊎-elim
-    (λ w. subst₂ (λ (l : List ℕ) (r : ℕ). Scanning (table s) l r (i + 1)) (sym (w .2)) (sym (w .3))
-    (scan-mark (table s) (p .loop .named) (p .loop .repeats) i (p .loop .inv) inside (w .1 .left) (few s)))
-    (λ w. subst₂ (λ (l : List ℕ) (r : ℕ). Scanning (table s) l r (i + 1)) (sym (w .1)) (sym (w .2))
-    (scan-skip (table s) (p .loop .named) (p .loop .repeats) i (p .loop .inv) inside (w .0 .left) (few s)))
+    (λ w. subst₂ (λ (l : List ℕ) (r : ℕ). (length l ≡ length (set (s .args .named .now) 0 1)) × Scanning (table s) l r (i + 1)) (sym (w .3)) (sym (w .4)) (
+      length-set (p .loop .named) (getD (table s) i 0) 1 ∙ p .loop .inv .0,
+      scan-mark (table s) (p .loop .named) (p .loop .repeats) i (p .loop .inv .1) inside (w .1 .left) (few s),
+    ))
+    (λ w. subst₂ (λ (l : List ℕ) (r : ℕ). (length l ≡ length (set (s .args .named .now) 0 1)) × Scanning (table s) l r (i + 1)) (sym (w .1)) (sym (w .2))
+    (p .loop .inv .0, scan-skip (table s) (p .loop .named) (p .loop .repeats) i (p .loop .inv .1) inside (w .0 .left) (few s)))
     (c .if1 .came)
+
+same-length-2 : tie.Need-same-length-2 Inv-loop μ-loop
+same-length-2 c = c .before .loop .inv .0 ∙ length-set (c .before .before .args .named .now) 0 1
 
 returns-2 : tie.Need-returns-2 Inv-loop μ-loop
 returns-2 c =
     let s = c .before .before in
     let p = c .before .loop in
     record {
-      bad = scan-good (table s) (p .named) (p .repeats) (p .i) (s .pre) (p .inv) (c .loop-test .left);
-      repeated = λ e. scan-repeated (table s) (p .named) (p .repeats) (p .i) (s .pre) (p .inv) (c .loop-test .left);
+      bad = scan-good (table s) (p .named) (p .repeats) (p .i) (s .pre .0) (p .inv .1) (c .loop-test .left);
+      repeated = λ e. scan-repeated (table s) (p .named) (p .repeats) (p .i) (s .pre .0) (p .inv .1) (c .loop-test .left);
     }
 
 pub scan-spec : {M : Type 1} → statement M
@@ -107,17 +115,19 @@ scan-spec =
     (tie.spec
     Inv-loop
     μ-loop
-    array-write-named
+    slice-write-named
     loop-holds
     mul-e
     shared-slice-read-e
     cast-e
+    same-length
     returns
-    array-read-repeats
+    slice-read-repeats
     cast-repeats
     add-repeats
-    array-write-named-2
+    slice-write-named-2
     add-i
     loop-less
     loop-again
+    same-length-2
     returns-2)
