@@ -16,6 +16,10 @@ use Rattle.sheet.specs.Below.{total, every, joined}
 pub split {ℓ} : {X : Type ℓ} (a b : ℕ) → (a ≤ b → X) → (b < a → X) → X
 split a b f g = elim (decLe a b) [ yes h ↦ f h | no h ↦ g (lt-of-not-le h) ]
 
+-- a number below n is below the next
+pub further : {k n : ℕ} → k < n → k < suc n
+further l = omega arith
+
 pub total-more : (n : ℕ) (f : ℕ → ℕ) → total (n + 1) f ≡ total n f + f n
 unfolding total
 total-more n f = rw add-one
@@ -25,9 +29,6 @@ pub total-cong : (n : ℕ) (f g : ℕ → ℕ) → ((k : ℕ) → k < n → f k 
 unfolding total
 total-cong zero f g h = refl
 total-cong (suc n) f g h = ap₂ (λ (a b : ℕ). a + b) (total-cong n f g (λ k l. h k (further l))) (h n (le-refl (suc n)))
-  where
-    further : {k : ℕ} → k < n → k < suc n
-    further l = omega arith
 
 and-false : (b : Bool) → b && false ≡ false
 and-false true = refl
@@ -49,9 +50,6 @@ pub every-holds : (n : ℕ) (p : ℕ → Bool) → ((k : ℕ) → k < n → p k 
 unfolding every
 every-holds zero p h = refl
 every-holds (suc n) p h = ap₂ (λ (a b : Bool). a && b) (every-holds n p (λ k l. h k (further l))) (h n (le-refl (suc n)))
-  where
-    further : {k : ℕ} → k < n → k < suc n
-    further l = omega arith
 
 pub every-at : (n : ℕ) (p : ℕ → Bool) → every n p ≡ true → (k : ℕ) → k < n → p k ≡ true
 every-at n p h k l = go (p k) refl
@@ -80,9 +78,6 @@ pub joined-cong : (n : ℕ) (f g : ℕ → List ℕ) → ((k : ℕ) → k < n �
 unfolding joined
 joined-cong zero f g h = refl
 joined-cong (suc n) f g h = ap₂ (λ (a b : List ℕ). a ++ b) (joined-cong n f g (λ k l. h k (further l))) (h n (le-refl (suc n)))
-  where
-    further : {k : ℕ} → k < n → k < suc n
-    further l = omega arith
 
 -- lists of one length c: the whole has n times c, and list k stands at k times c
 module _ (c : ℕ) (f : ℕ → List ℕ) (each : (k : ℕ) → length (f k) ≡ c) where

@@ -8,6 +8,7 @@ use Rattle.sheet.specs.Below.{joined}
 use Rattle.sheet.specs.Block.{wordLimit, closingPlace, bytesOf, closing}
 use Rattle.sheet.specs.Layout.{blockRows, blocksFor, rowsIn, countWord}
 use Rattle.sheet.specs.File.{row, content, padded, closed, blockOf, fileOf, EachBelow, Contents}
+use Rattle.sheet.proofs.Below.{further}
 
 module _ (m : ℕ) (positive : 0 < m) where
   none-below : EachBelow m []
@@ -30,9 +31,6 @@ module _ (m : ℕ) (positive : 0 < m) where
   unfolding joined
   joined-below zero f h = none-below
   joined-below (suc n) f h = append-below (joined n f) (f n) (joined-below n f (λ k l. h k (further l))) (h n (le-refl (suc n)))
-    where
-      further : {k : ℕ} → k < n → k < suc n
-      further l = omega arith
 
 -- words of 16 bits give bytes
 bytes-below : (words : List ℕ) → EachBelow wordLimit words → EachBelow 256 (bytesOf words)
