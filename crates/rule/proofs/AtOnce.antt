@@ -39,11 +39,11 @@ map-drop f (suc l) (x ∷ xs) = map-drop f l xs
 
 -- ---- meetings in a row
 
-shares-append : (j : ℕ) (ms ns : List Meeting) (p : ℕ) → shares j (ms ++ ns) p ≡ shares j ms p + shares j ns p
+pub shares-append : (j : ℕ) (ms ns : List Meeting) (p : ℕ) → shares j (ms ++ ns) p ≡ shares j ms p + shares j ns p
 shares-append j [] ns p = omega arith
 shares-append j (m ∷ ms) ns p = omega (arith, shares-append j ms ns p)
 
-total-append : (ms ns : List Meeting) → total (ms ++ ns) ≡ total ms + total ns
+pub total-append : (ms ns : List Meeting) → total (ms ++ ns) ≡ total ms + total ns
 total-append [] ns = omega arith
 total-append (m ∷ ms) ns = omega (arith, total-append ms ns)
 

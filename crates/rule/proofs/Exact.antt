@@ -60,7 +60,7 @@ meet-exact D j c moved (x ∷ xs) (y ∷ ys) m t f o hm ht =
 -- ---- the top level: where nothing was too close, the child stands where it started
 
 -- the first level of a row ends with its last child, which stands D before the place where the next one starts
-row-last : (D i v u x : ℕ) (below after : Drawing)
+pub row-last : (D i v u x : ℕ) (below after : Drawing)
     → (e : Dot) × (l : List Dot) × (ls : List (List Dot)) × (rowDots i (at u x below after) ≡ (e ∷ l) ∷ ls)
     × (pos (start D (at u x below after) v) ≡ (lastOf (e ∷ l)) .place +ℤ pos D)
 row-last D i v u x below none = (dot i u (pos (0 + x)), [], _, refl, ap pos (omega arith))

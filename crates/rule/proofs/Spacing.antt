@@ -179,7 +179,7 @@ last-in P (d ∷ e ∷ l) s a = last-in P (e ∷ l) some (a .1)
 pub first-in : (P : Dot → Type 0) (l : List Dot) → Some l → All P l → P (firstOf l)
 first-in P (d ∷ l) s a = a .0
 
-last-append : (l m : List Dot) → Some m → lastOf (l ++ m) ≡ lastOf m
+pub last-append : (l m : List Dot) → Some m → lastOf (l ++ m) ≡ lastOf m
 last-append [] m s = refl
 last-append (d ∷ []) (e ∷ m) s = refl
 last-append (d ∷ e ∷ l) m s = last-append (e ∷ l) m s

@@ -32,7 +32,7 @@ use Rattle.rule.proofs.Promises.{measured-neighbours, stands-at, part-a
 
 -- ---- one forest behind another is drawn one after the other
 
-drawOnto-join : (D : ℕ) (row : Drawing) (f g : Forest) → drawOnto D row (joinForest f g) ≡ drawOnto D (drawOnto D row f) g
+pub drawOnto-join : (D : ℕ) (row : Drawing) (f g : Forest) → drawOnto D row (joinForest f g) ≡ drawOnto D (drawOnto D row f) g
 drawOnto-join D row nil g = refl
 drawOnto-join D row (node v f h) g = drawOnto-join D (join D row v (drawOnto D none f)) h g
 
@@ -110,7 +110,7 @@ on-move f (x ∷ xs) (top m) = top (mem-move f x m)
 on-move f (x ∷ xs) (down o) = down (on-move f xs o)
 
 -- a node on the levels of a drawing is a node of its forest
-on-names : (d : Drawing) (ls : List (List Dot)) → map nodesOf ls ≡ levels (names d) → (e : Dot) (l : ℕ) → OnLevel e l ls → 1 ≤ count (e .node) (preorder (names d))
+pub on-names : (d : Drawing) (ls : List (List Dot)) → map nodesOf ls ≡ levels (names d) → (e : Dot) (l : ℕ) → OnLevel e l ls → 1 ≤ count (e .node) (preorder (names d))
 on-names d ls same e l o =
     omega (
       arith,

@@ -85,10 +85,10 @@ last-right D d (e ∷ f ∷ l) s m =
     ))
     (λ k. last-right D d (f ∷ l) (s .1) k) (List·Memᴰ·cases-cons m)
 
-first-mem : (y : List Dot) → Some y → List·Memᴰ (firstOf y) y
+pub first-mem : (y : List Dot) → Some y → List·Memᴰ (firstOf y) y
 first-mem (d ∷ l) s = List·Memᴰ·head refl
 
-last-mem : (x : List Dot) → Some x → List·Memᴰ (lastOf x) x
+pub last-mem : (x : List Dot) → Some x → List·Memᴰ (lastOf x) x
 last-mem (d ∷ []) s = List·Memᴰ·head refl
 last-mem (d ∷ e ∷ l) s = List·Memᴰ·tail (last-mem (e ∷ l) some)
 
@@ -337,7 +337,7 @@ module _ (w i v : ℕ) (o : ℤ) (u x : ℕ) (below after : Drawing) (n : Narrow
       (split e l oe)
 
 -- a child and what is drawn below it
-narrow-alone : (w i v x : ℕ) (below : Drawing) → Narrow w (rowDots 0 below) → Narrow w (dots i (pos 0) (alone v x below))
+pub narrow-alone : (w i v x : ℕ) (below : Drawing) → Narrow w (rowDots 0 below) → Narrow w (dots i (pos 0) (alone v x below))
 narrow-alone w i v x none n = λ e f l k oe of.
     subst₂ (λ (a b : Dot). AtMost (a .place) (b .place +ℤ pos w)) (sym (only e l oe)) (sym (only f k of)) (omega (arith, parts-add (pos (0 + x)) (pos w)))
   where
@@ -419,7 +419,7 @@ narrow-row-join D (at u x under after) v below R B n b =
         ∙ ap (span D) (size-join (names row) (node v (names below) nil) ∙ counted)
         ∙ omega arith
 
-narrow-none : (D : ℕ) → Narrow 0 []
+pub narrow-none : (D : ℕ) → Narrow 0 []
 narrow-none D e f l k o p = absurd (not-suc-le-zero (on-some o))
 
 pub narrow-drawOnto : (D : ℕ) (row : Drawing) (f : Forest) → Row D (width row) (rowDots 0 row) → Narrow (span D (size (names row))) (rowDots 0 row)

@@ -6,6 +6,7 @@ use native.Mathlib.Nat.{not-suc-le-zero}
 use native.Mathlib.Omega.{arith}
 use Rattle.tree.specs.Numbers.{flatMap}
 use Rattle.tree.specs.Table.{nodes, firstChild}
+pub use Rattle.tree.specs.Forest.{join}
 use Rattle.tree.specs.Forest.{Forest, nil, node, forest, forestFrom, treeOf, size, preorder, roots, entry, siblings}
 use Rattle.tree.specs.Levels.{childrenOf, walkFrom, walk, beside, levels}
 use Rattle.tree.specs.WellFormed.{tableNumber}
@@ -14,11 +15,7 @@ use Rattle.tree.proofs.Reading.{Agrees}
 use Rattle.tree.proofs.Linked.{read-back}
 use Rattle.tree.proofs.Stands.{accepted-agrees, accepted-numbers, accepted-size}
 
--- ---- one forest behind another, and the forest one level down
-
-abbrev pub join : Forest → Forest → Forest
-join nil g = g
-join (node v f h) g = node v f (join h g)
+-- ---- the forest one level down
 
 abbrev pub oneDown : Forest → Forest
 oneDown nil = nil

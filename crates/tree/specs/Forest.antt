@@ -71,6 +71,11 @@ abbrev pub startingAt : ℕ → Forest → Forest
 startingAt v nil = nil
 startingAt v (node u below after) = cond (eqb v u) (node u below after) (orElse (startingAt v below) (startingAt v after))
 
+-- one forest behind another: the roots of both, in a row
+abbrev pub join : Forest → Forest → Forest
+join nil g = g
+join (node v below after) g = node v below (join after g)
+
 -- ---- from a tree to its table
 
 -- node v's two entries

@@ -1,0 +1,236 @@
+-- The answers of the layout: its number, what a refusal gives, and what an acceptance gives. Assumes nothing.
+use mathlib.Core.Path.{_≡_, refl, sym, ap, ap₂, _∙_}
+use mathlib.Core.Logic.{_⊎_, inl, inr}
+use mathlib.Core.Bool.{Bool, true, false, cond, not, _||_, _&&_}
+use mathlib.Core.List.{List, [], _∷_, _++_, append-assoc}
+use Prim.Native.Nat.{ℕ, zero, suc, _+_, _*_, _≤_, _<_}
+use native.Mathlib.Omega.{arith}
+use lib.Dec.{ltb, leb}
+use lib.IntN.{ℤ, pos}
+use lib.ListN.{length, take, drop, replicate, length-replicate, length-map, take-append-drop}
+use lib.Seq.{length-take-le, drop-append-le}
+use borrow.Author.Tests.{ltb-false, leb-true, lt-ltb, le-ltb, le-leb, lt-leb, not-false}
+use Rattle.refusal.specs.First.{_⇐_}
+use Rattle.refusal.specs.After.{granted, overwrite, after}
+use Rattle.refusal.proofs.Laws.{first-refused, first-passed, first-none, none-first}
+use Rattle.tree.specs.Numbers.{upTo}
+use Rattle.tree.specs.Table.{nodes}
+use Rattle.tree.specs.Levels.{Pair, level, neighbours, levelCount}
+use Rattle.tree.specs.WellFormed.{tableConditions, tableNumber}
+use Rattle.tree.proofs.Tests.{true-false, or-false-left, or-false-right, or-false, or-true}
+use Rattle.rule.specs.Record.{SamePairs, flat}
+use Rattle.rule.specs.Result.{Slices, badSeparation, shortResults, shortWork, layoutNumber, placesOf, levelsOf, leastOf, greatestOf, place, Layout}
+use Rattle.rule.proofs.Promises.{neighbours-count}
+use Rattle.layout.specs.Operation.{slices, answer}
+use Rattle.layout.specs.LastPass.{Settled}
+use Rattle.layout.proofs.Recorded.{length-flat}
+use Rattle.layout.proofs.Settling.{length-upTo}
+
+-- ---- the tests
+
+and-left : (a b : Bool) → (a && b) ≡ true → a ≡ true
+and-left true b e = refl
+and-left false b e = e
+
+and-right : (a b : Bool) → (a && b) ≡ true → b ≡ true
+and-right true b e = e
+and-right false b e = absurd (true-false (sym e))
+
+module _ (D : ℕ) where
+  pub separation-bad : (D < 1) ⊎ (1024 < D) → badSeparation D ≡ true
+  unfolding badSeparation
+  separation-bad (inl h) = ap (λ (b : Bool). not (b && leb D 1024)) (lt-leb 1 D h)
+  separation-bad (inr h) = ap (λ (b : Bool). not (leb 1 D && b)) (lt-leb D 1024 h) ∙ off (leb 1 D)
+    where
+      off : (b : Bool) → not (b && false) ≡ true
+      off true = refl
+      off false = refl
+
+  pub separation-good : 1 ≤ D → D ≤ 1024 → badSeparation D ≡ false
+  unfolding badSeparation
+  separation-good h k = ap₂ (λ (a b : Bool). not (a && b)) (le-leb 1 D h) (le-leb D 1024 k)
+
+  good-separation : badSeparation D ≡ false → (1 ≤ D) × (D ≤ 1024)
+  unfolding badSeparation
+  good-separation e =
+      let b = not-false (leb 1 D && leb D 1024) e in
+      (leb-true 1 D (and-left (leb 1 D) (leb D 1024) b), leb-true D 1024 (and-right (leb 1 D) (leb D 1024) b))
+
+module _ (t : List ℕ) (s : Slices) where
+  pub results-short : (length (s .places) < nodes t) ⊎ ((length (s .levels) < nodes t) ⊎ (length (s .theRecord) < 2 * nodes t)) → shortResults t s ≡ true
+  unfolding shortResults
+  results-short (inl h) = or-true (inl (or-true (inl (lt-ltb (length (s .places)) (nodes t) h))))
+  results-short (inr (inl h)) = or-true (inl (or-true {a = ltb (length (s .places)) (nodes t)} (inr (lt-ltb (length (s .levels)) (nodes t) h))))
+  results-short (inr (inr h)) =
+      or-true {a = ltb (length (s .places)) (nodes t) || ltb (length (s .levels)) (nodes t)} (inr (lt-ltb (length (s .theRecord)) (2 * nodes t) h))
+
+  pub results-long : nodes t ≤ length (s .places) → nodes t ≤ length (s .levels) → 2 * nodes t ≤ length (s .theRecord) → shortResults t s ≡ false
+  unfolding shortResults
+  results-long h i j = or-false (or-false (le-ltb (length (s .places)) (nodes t) h) (le-ltb (length (s .levels)) (nodes t) i)) (le-ltb (length (s .theRecord)) (2 * nodes t) j)
+
+  pub work-short : length (s .work) < 16 * nodes t → shortWork t s ≡ true
+  unfolding shortWork
+  work-short h = lt-ltb (length (s .work)) (16 * nodes t) h
+
+  pub work-long : 16 * nodes t ≤ length (s .work) → shortWork t s ≡ false
+  unfolding shortWork
+  work-long h = le-ltb (length (s .work)) (16 * nodes t) h
+
+-- ---- the number
+
+module _ (t : List ℕ) (D : ℕ) (s : Slices) where
+  pub number-table : (k : ℕ) → k ≡ tableNumber t → (k ≡ 0 → ⊥) → k ≡ layoutNumber t D s
+  unfolding layoutNumber tableNumber
+  number-table k e d = e ∙ sym (first-refused (tableConditions t) (6 ⇐ badSeparation D ∷ 7 ⇐ shortResults t s ∷ 8 ⇐ shortWork t s ∷ []) (λ z. d (e ∙ z)))
+
+  number-later : tableNumber t ≡ 0 → layoutNumber t D s ≡ cond (badSeparation D) 6 (cond (shortResults t s) 7 (cond (shortWork t s) 8 0))
+  unfolding layoutNumber tableNumber tableConditions
+  number-later e =
+      first-passed (tableConditions t) (6 ⇐ badSeparation D ∷ 7 ⇐ shortResults t s ∷ 8 ⇐ shortWork t s ∷ []) (first-none (tableConditions t) (omega arith) e)
+
+  module _ (accepted : tableNumber t ≡ 0) where
+    pub number-6 : badSeparation D ≡ true → 6 ≡ layoutNumber t D s
+    number-6 a = sym (number-later accepted ∙ ap (λ (b : Bool). cond b 6 (cond (shortResults t s) 7 (cond (shortWork t s) 8 0))) a)
+
+    pub number-7 : badSeparation D ≡ false → shortResults t s ≡ true → 7 ≡ layoutNumber t D s
+    number-7 a b = sym (number-later accepted ∙ simp (a, b))
+
+    pub number-8 : badSeparation D ≡ false → shortResults t s ≡ false → shortWork t s ≡ true → 8 ≡ layoutNumber t D s
+    number-8 a b c = sym (number-later accepted ∙ simp (a, b, c))
+
+    pub number-0 : badSeparation D ≡ false → shortResults t s ≡ false → shortWork t s ≡ false → 0 ≡ layoutNumber t D s
+    number-0 a b c = sym (number-later accepted ∙ simp (a, b, c))
+
+  -- where the number is 0
+  pub record Taken : Type 0 where
+    pub table : tableNumber t ≡ 0
+    pub some : 1 ≤ D
+    pub small : D ≤ 1024
+    pub places : nodes t ≤ length (s .places)
+    pub levels : nodes t ≤ length (s .levels)
+    pub measured : 2 * nodes t ≤ length (s .theRecord)
+    pub work : 16 * nodes t ≤ length (s .work)
+
+  pub taken : layoutNumber t D s ≡ 0 → Taken
+  unfolding layoutNumber tableNumber tableConditions shortResults shortWork
+  taken e =
+      let h = first-none (tableConditions t ++ (6 ⇐ badSeparation D ∷ 7 ⇐ shortResults t s ∷ 8 ⇐ shortWork t s ∷ [])) (omega arith) e in
+      let six = h .1 .1 .1 .1 .1 .0 in
+      let seven = h .1 .1 .1 .1 .1 .1 .0 in
+      let eight = h .1 .1 .1 .1 .1 .1 .1 .0 in
+      let first-two = or-false-left (ltb (length (s .places)) (nodes t) || ltb (length (s .levels)) (nodes t)) (ltb (length (s .theRecord)) (2 * nodes t)) seven in
+      record {
+        table = none-first (tableConditions t) (h .0, (h .1 .0, (h .1 .1 .0, (h .1 .1 .1 .0, (h .1 .1 .1 .1 .0, tt)))));
+        some = good-separation D six .0;
+        small = good-separation D six .1;
+        places = ltb-false (length (s .places)) (nodes t) (or-false-left (ltb (length (s .places)) (nodes t)) (ltb (length (s .levels)) (nodes t)) first-two);
+        levels = ltb-false (length (s .levels)) (nodes t) (or-false-right (ltb (length (s .places)) (nodes t)) (ltb (length (s .levels)) (nodes t)) first-two);
+        measured = ltb-false (length (s .theRecord)) (2 * nodes t)
+            (or-false-right (ltb (length (s .places)) (nodes t) || ltb (length (s .levels)) (nodes t)) (ltb (length (s .theRecord)) (2 * nodes t)) seven);
+        work = ltb-false (length (s .work)) (16 * nodes t) eight;
+      }
+
+-- ---- the answer
+
+same-pairs : (ps : List Pair) → SamePairs ps ps
+same-pairs ps = record { many = refl; each = λ a b. refl }
+
+-- a refusal gives 0 and leaves a slice as it is
+module _ {A : Type 0} where
+  granted-refused : (k : ℕ) (x y : A) → (k ≡ 0 → ⊥) → y ≡ granted k x y
+  granted-refused zero x y d = absurd (d refl)
+  granted-refused (suc k) x y d = refl
+
+  after-refused : (k : ℕ) (new old : List A) → (k ≡ 0 → ⊥) → old ≡ after k new old
+  unfolding after
+  after-refused zero new old d = absurd (d refl)
+  after-refused (suc k) new old d = refl
+
+  -- an acceptance gives the field, and writes in front
+  granted-taken : (k : ℕ) (x y z : A) → k ≡ 0 → z ≡ x → z ≡ granted k x y
+  granted-taken k x y z e f = f ∙ sym (ap (λ (j : ℕ). granted j x y) e)
+
+  after-taken : (k n : ℕ) (new old front : List A) → k ≡ 0 → length new ≡ n → front ≡ new → front ++ drop n old ≡ after k new old
+  unfolding after overwrite
+  after-taken k n new old front e l f =
+      ap (λ (m : List A). m ++ drop n old) f
+      ∙ ap (λ (j : ℕ). new ++ drop j old) (sym l)
+      ∙ sym (ap (λ (j : ℕ). after j new old) e)
+
+  -- a part that is written in front, and what stands behind the part
+  after-part : (k n : ℕ) (new old : List A) → k ≡ 0 → length new ≤ n → n ≤ length old → overwrite new (take n old) ++ drop n old ≡ after k new old
+  unfolding after overwrite
+  after-part k n new old e l h =
+      append-assoc new (drop (length new) (take n old)) (drop n old)
+      ∙ ap (λ (m : List A). new ++ m)
+      (sym (drop-append-le (length new) (take n old) (drop n old) (omega (arith, length-take-le n old h))) ∙ ap (drop (length new)) (take-append-drop n old))
+      ∙ sym (ap (λ (j : ℕ). after j new old) e)
+
+module _ (t : List ℕ) (D : ℕ) (s : Slices) where
+  pub layout-refused : (k : ℕ) → k ≡ layoutNumber t D s → (k ≡ 0 → ⊥) → Layout t D s (answer k 0 0 (pos 0) (pos 0) 0) s
+  layout-refused k e d =
+      record {
+        number = e;
+        nodes = granted-refused (layoutNumber t D s) (nodes t) 0 d′;
+        levelCount = granted-refused (layoutNumber t D s) (levelCount t) 0 d′;
+        least = granted-refused (layoutNumber t D s) (leastOf (placesOf D t)) (pos 0) d′;
+        greatest = granted-refused (layoutNumber t D s) (greatestOf (placesOf D t)) (pos 0) d′;
+        pairs = granted-refused (layoutNumber t D s) (length (neighbours t)) 0 d′;
+        places = after-refused (layoutNumber t D s) (placesOf D t) (s .places) d′;
+        levels = after-refused (layoutNumber t D s) (levelsOf t) (s .levels) d′;
+        theRecord = (neighbours t, same-pairs (neighbours t), after-refused (layoutNumber t D s) (flat (neighbours t)) (s .theRecord) d′);
+        work = after-refused (layoutNumber t D s) (replicate (16 * nodes t) (pos 0)) (s .work) d′;
+      }
+    where
+      d′ : layoutNumber t D s ≡ 0 → ⊥
+      d′ z = d (e ∙ z)
+
+  module _ (zero-number : layoutNumber t D s ≡ 0) where
+    abbrev T : Taken t D s
+    T = taken t D s zero-number
+
+    length-places : length (placesOf D t) ≡ nodes t
+    unfolding placesOf
+    length-places = length-map (upTo (nodes t)) (place D t) ∙ length-upTo (nodes t)
+
+    length-levels : length (levelsOf t) ≡ nodes t
+    unfolding levelsOf
+    length-levels = length-map (upTo (nodes t)) (level t) ∙ length-upTo (nodes t)
+
+    room : length (flat (neighbours t)) ≤ 2 * nodes t
+    room = omega (arith, length-flat (neighbours t), neighbours-count t (T .table))
+
+    work-after : (ws : List ℤ) → drop (16 * nodes t) ws ≡ drop (16 * nodes t) (s .work)
+        → overwrite (replicate (16 * nodes t) (pos 0)) ws ≡ after (layoutNumber t D s) (replicate (16 * nodes t) (pos 0)) (s .work)
+    unfolding overwrite
+    work-after ws e =
+        ap (λ (k : ℕ). replicate (16 * nodes t) (pos 0) ++ drop k ws) (length-replicate (16 * nodes t) (pos 0))
+        ∙ ap (λ (l : List ℤ). replicate (16 * nodes t) (pos 0) ++ l) e
+        ∙ after-taken (layoutNumber t D s) (16 * nodes t) (replicate (16 * nodes t) (pos 0)) (s .work) (replicate (16 * nodes t) (pos 0)) zero-number
+        (length-replicate (16 * nodes t) (pos 0)) refl
+
+    -- the last pass over the fronts of the slices, and then the working slice cleared
+    pub layout-accepted : (ps : List ℤ) (ls rs : List ℕ) (ws ws′ wend : List ℤ) (k : ℕ) (low high : ℤ) (many : ℕ)
+        → Settled t D ps ls (take (2 * nodes t) (s .theRecord)) rs ws ws′ k low high many
+        → drop (16 * nodes t) ws ≡ drop (16 * nodes t) (s .work)
+        → wend ≡ overwrite (replicate (16 * nodes t) (pos 0)) ws′
+        → Layout t D s (answer 0 (nodes t) k low high many)
+        (slices (ps ++ drop (nodes t) (s .places)) (ls ++ drop (nodes t) (s .levels)) (rs ++ drop (2 * nodes t) (s .theRecord)) wend)
+    layout-accepted ps ls rs ws ws′ wend k low high many S e f =
+        record {
+          number = sym zero-number;
+          nodes = granted-taken (layoutNumber t D s) (nodes t) 0 (nodes t) zero-number refl;
+          levelCount = granted-taken (layoutNumber t D s) (levelCount t) 0 k zero-number (S .levelCount);
+          least = granted-taken (layoutNumber t D s) (leastOf (placesOf D t)) (pos 0) low zero-number (S .least);
+          greatest = granted-taken (layoutNumber t D s) (greatestOf (placesOf D t)) (pos 0) high zero-number (S .greatest);
+          pairs = granted-taken (layoutNumber t D s) (length (neighbours t)) 0 many zero-number (S .pairs);
+          places = after-taken (layoutNumber t D s) (nodes t) (placesOf D t) (s .places) ps zero-number length-places (S .places);
+          levels = after-taken (layoutNumber t D s) (nodes t) (levelsOf t) (s .levels) ls zero-number length-levels (S .levels);
+          theRecord = (
+            neighbours t,
+            same-pairs (neighbours t),
+            ap (λ (l : List ℕ). l ++ drop (2 * nodes t) (s .theRecord)) (S .measured)
+                ∙ after-part (layoutNumber t D s) (2 * nodes t) (flat (neighbours t)) (s .theRecord) zero-number room (T .measured),
+          );
+          work = f ∙ work-after ws′ (S .rest ∙ e);
+        }

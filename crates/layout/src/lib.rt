@@ -1,0 +1,99 @@
+// The linear engine: where the nodes of a tree table stand, in time proportional to their number.
+ghost use mathlib.Core.Path.{_≡_};
+ghost use Rattle.rule.specs.Result.{Layout, layoutNumber};
+ghost use Rattle.layout.specs.Operation.{slices, answer};
+
+mod clear;
+mod execute;
+mod families;
+mod family;
+mod field;
+mod join;
+mod number;
+mod owner;
+mod settle;
+mod share;
+
+pub struct Drawn {
+    pub number: u16,
+    pub nodes: u16,
+    pub levels: u16,
+    pub least: i32,
+    pub greatest: i32,
+    pub pairs: u16,
+}
+
+// The number of the first condition that holds, or 0.
+fn layout_number(
+    table: &[u16],
+    separation: u16,
+    places: &[i32],
+    levels: &[u16],
+    measured: &[u16],
+    work: &[i32],
+) -> u16
+    ensures { λ r. ⌜ r ≡ layoutNumber (now (table .entry)) separation (slices (now (places .entry)) (now (levels .entry)) (now (measured .entry)) (now (work .entry))) ⌝ }
+{
+    let checked = tree::check_table(table);
+    let number = checked.number;
+    if number != 0 {
+        return number;
+    }
+    if separation < 1 || 1024 < separation {
+        return 6;
+    }
+    let n = table.len() / 2;
+    if places.len() < n || levels.len() < n || measured.len() < 2 * n {
+        return 7;
+    }
+    if work.len() < 16 * n {
+        return 8;
+    }
+    0
+}
+
+// Writes places and levels by node number, and the pairs of neighbours as the record; the first 16 working entries for each node are 0
+// afterwards. A refusal gives its number and changes nothing.
+pub fn layout(
+    table: &[u16],
+    separation: u16,
+    places: &mut [i32],
+    levels: &mut [u16],
+    measured: &mut [u16],
+    work: &mut [i32],
+) -> Drawn
+    ensures { λ r. ⌜ Layout (now (table .entry)) separation (slices (now (places .entry)) (now (levels .entry)) (now (measured .entry)) (now (work .entry))) (answer (r .number) (r .nodes) (r .levels) (r .least) (r .greatest) (r .pairs)) (slices (now (places .exit)) (now (levels .exit)) (now (measured .exit)) (now (work .exit))) ⌝ }
+{
+    let refused = layout_number(table, separation, places, levels, measured, work);
+    if refused != 0 {
+        return Drawn {
+            number: refused,
+            nodes: 0,
+            levels: 0,
+            least: 0,
+            greatest: 0,
+            pairs: 0,
+        };
+    }
+    let n = table.len() / 2;
+    let entries = 2 * n;
+    number::number(table, work);
+    families::families(table, separation, work);
+    let settled = settle::settle(
+        table,
+        separation,
+        &mut places[..n],
+        &mut levels[..n],
+        &mut measured[..entries],
+        work,
+    );
+    clear::clear(work, 16 * n);
+    Drawn {
+        number: 0,
+        nodes: n as u16,
+        levels: settled.levels,
+        least: settled.least,
+        greatest: settled.greatest,
+        pairs: settled.pairs,
+    }
+}
