@@ -55,3 +55,4 @@ pub mod Recorded
 pub mod Extreme
 pub mod Settling
 pub mod Answers
+pub mod Returned

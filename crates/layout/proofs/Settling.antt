@@ -50,7 +50,7 @@ pub length-upTo : (n : ℕ) → length (upTo n) ≡ n
 length-upTo zero = refl
 length-upTo (suc n) = omega (arith, length-append (upTo n) (n ∷ []), length-upTo n)
 
-map-upTo : {A : Type 0} (f : ℕ → A) (d : A) (n i : ℕ) → i < n → getD (map f (upTo n)) i d ≡ f i
+pub map-upTo : {A : Type 0} (f : ℕ → A) (d : A) (n i : ℕ) → i < n → getD (map f (upTo n)) i d ≡ f i
 map-upTo f d zero i h = absurd (not-suc-le-zero h)
 map-upTo {A} f d (suc n) i h =
     ap (λ (l : List A). getD l i d) (map-append (upTo n))

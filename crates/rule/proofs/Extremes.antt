@@ -127,6 +127,19 @@ module _ (D : ℕ) (t : List ℕ) (accepted : tableNumber t ≡ 0) where
   unfolding placesOf
   greatest-bounds v h = parts-le _ _ (places-all (place D t) (λ x. AtMost x (greatestOf (map (place D t) (upTo (nodes t))))) (nodes t) (greatest-ge (map (place D t) (upTo (nodes t)))) v h)
 
+  -- and each is the place of some node
+  pub least-met : (v : ℕ) × (v < nodes t) × (place D t v ≡ leastOf (placesOf D t))
+  unfolding placesOf
+  least-met =
+      least-in (λ x. (v : ℕ) × (v < nodes t) × (place D t v ≡ x)) (map (place D t) (upTo (nodes t))) (some-places (place D t) (nodes t) few)
+      (all-places (place D t) (λ x. (v : ℕ) × (v < nodes t) × (place D t v ≡ x)) (nodes t) (λ v h. (v, h, refl)))
+
+  pub greatest-met : (v : ℕ) × (v < nodes t) × (place D t v ≡ greatestOf (placesOf D t))
+  unfolding placesOf
+  greatest-met =
+      greatest-in (λ x. (v : ℕ) × (v < nodes t) × (place D t v ≡ x)) (map (place D t) (upTo (nodes t))) (some-places (place D t) (nodes t) few)
+      (all-places (place D t) (λ x. (v : ℕ) × (v < nodes t) × (place D t v ≡ x)) (nodes t) (λ v h. (v, h, refl)))
+
   pub least-at-most-0 : leastOf (placesOf D t) ≤ℤ pos 0
   least-at-most-0 = subst (λ (x : ℤ). leastOf (placesOf D t) ≤ℤ x) root-place (least-bounds 0 few)
 

@@ -1,0 +1,181 @@
+-- What an accepted call of the layout returns: the record, the order and the distance of neighbours, the extremes, and equal shapes in one
+-- call or in two of one separation. Assumes nothing.
+use mathlib.Core.Path.{_≡_, refl, sym, ap, ap₂, _∙_, subst, subst₂}
+use mathlib.Core.Bool.{true}
+use mathlib.Core.List.{List, [], _∷_, _++_, map}
+use Prim.Native.Nat.{ℕ, zero, suc, _+_, _*_, _≤_, _<_}
+use native.Mathlib.Omega.{arith}
+use lib.IntN.{ℤ, pos, _+ℤ_}
+use lib.ListN.{length, getD, drop, length-map, List·getD-append}
+use lib.Signed.{_≤ℤ_}
+use Rattle.refusal.specs.After.{granted, overwrite, after}
+use Rattle.tree.specs.Numbers.{upTo, flatMap}
+use Rattle.tree.specs.Table.{nodes}
+use Rattle.tree.specs.Forest.{Forest, nil, node, treeOf, preorder}
+use Rattle.tree.specs.Levels.{Pair, beside, levels, level, levelCount, sideBySide, neighbours}
+use Rattle.tree.specs.Shape.{corresponding, correspondingUnder, sameOrderedShape, under}
+use Rattle.tree.specs.WellFormed.{tableNumber}
+use Rattle.tree.proofs.Counting.{All, Below, all-append, all-left, all-right}
+use Rattle.tree.proofs.Parts.{part-below}
+use Rattle.tree.proofs.Stands.{accepted-numbers}
+use Rattle.rule.specs.Record.{pairCount, SamePairs, flat}
+use Rattle.rule.specs.Result.{Slices, Answer, Layout, layoutNumber, place, placesOf, levelsOf, leastOf, greatestOf}
+use Rattle.rule.proofs.Promises.{neighbours-once, neighbours-count, neighbours-apart, part-at, shapes-equal}
+use Rattle.rule.proofs.Extremes.{least-bounds, greatest-bounds, least-met, greatest-met}
+use Rattle.layout.proofs.Answers.{Taken, taken}
+use Rattle.layout.proofs.Settling.{map-upTo, length-upTo}
+
+-- ---- nodes of lists that are read off a tree are below n
+
+below-beside : (n : ℕ) (xs ys : List (List ℕ)) → All (Below n) xs → All (Below n) ys → All (Below n) (beside xs ys)
+below-beside n [] ys a b = b
+below-beside n (x ∷ xs) [] a b = a
+below-beside n (x ∷ xs) (y ∷ ys) a b = (all-append (λ v. v < n) x y (a .0) (b .0), below-beside n xs ys (a .1) (b .1))
+
+below-levels : (n : ℕ) (f : Forest) → Below n (preorder f) → All (Below n) (levels f)
+below-levels n nil b = tt
+below-levels n (node v f g) b =
+    below-beside n ((v ∷ []) ∷ levels f) (levels g) ((b .0, tt), below-levels n f (all-left (λ x. x < n) (preorder f) (preorder g) (b .1)))
+    (below-levels n g (all-right (λ x. x < n) (preorder f) (preorder g) (b .1)))
+
+below-beside-each : (n : ℕ) (l : List ℕ) → Below n l → All (λ p. (p .0 < n) × (p .1 < n)) (sideBySide l)
+below-beside-each n [] b = tt
+below-beside-each n (x ∷ []) b = tt
+below-beside-each n (x ∷ y ∷ l) b = ((b .0, b .1 .0), below-beside-each n (y ∷ l) (b .1))
+
+below-neighbours : (t : List ℕ) → tableNumber t ≡ 0 → All (λ p. (p .0 < nodes t) × (p .1 < nodes t)) (neighbours t)
+unfolding neighbours
+below-neighbours t e = go (levels (treeOf t)) (below-levels (nodes t) (treeOf t) (accepted-numbers t e .below))
+  where
+    go : (ls : List (List ℕ)) → All (Below (nodes t)) ls → All (λ p. (p .0 < nodes t) × (p .1 < nodes t)) (flatMap sideBySide ls)
+    go [] a = tt
+    go (l ∷ ls) a = all-append (λ p. (p .0 < nodes t) × (p .1 < nodes t)) (sideBySide l) (flatMap sideBySide ls) (below-beside-each (nodes t) l (a .0)) (go ls (a .1))
+
+below-corresponding : (n m : ℕ) (f g : Forest) → Below n (preorder f) → Below m (preorder g) → All (λ p. (p .0 < n) × (p .1 < m)) (corresponding f g)
+below-corresponding n m nil g a b = tt
+below-corresponding n m (node v f h) nil a b = tt
+below-corresponding n m (node v f h) (node w f′ h′) a b = (
+  (a .0, b .0),
+  all-append (λ p. (p .0 < n) × (p .1 < m)) (corresponding f f′) (corresponding h h′)
+      (below-corresponding n m f f′ (all-left (λ x. x < n) (preorder f) (preorder h) (a .1)) (all-left (λ x. x < m) (preorder f′) (preorder h′) (b .1)))
+      (below-corresponding n m h h′ (all-right (λ x. x < n) (preorder f) (preorder h) (a .1)) (all-right (λ x. x < m) (preorder f′) (preorder h′) (b .1))),
+)
+
+below-under : (t : List ℕ) → tableNumber t ≡ 0 → (v : ℕ) → v < nodes t → Below (nodes t) (preorder (under t v))
+below-under t e v h =
+    let p = part-at t e v h in
+    all-left (λ x. x < nodes t) (preorder (under t v)) (preorder (p .0)) (part-below (nodes t) (p .1) (accepted-numbers t e .below) .1)
+
+both : {A : Type 0} (P Q R : A → Type 0) → ((x : A) → P x → Q x → R x) → (l : List A) → All P l → All Q l → All R l
+both P Q R h [] a b = tt
+both P Q R h (x ∷ l) a b = (h x (a .0) (b .0), both P Q R h l (a .1) (b .1))
+
+-- ---- one call
+
+module _ (t : List ℕ) (D : ℕ) (s : Slices) (a : Answer) (u : Slices) (L : Layout t D s a u) (granted-call : a .number ≡ 0) where
+  number-0 : layoutNumber t D s ≡ 0
+  number-0 = sym (L .number) ∙ granted-call
+
+  pub accepted : tableNumber t ≡ 0
+  accepted = taken t D s number-0 .table
+
+  written : {A : Type 0} (new old now : List A) → now ≡ after (layoutNumber t D s) new old → now ≡ new ++ drop (length new) old
+  unfolding after overwrite
+  written {A} new old now e = e ∙ ap (λ (k : ℕ). after k new old) number-0
+
+  field : {A : Type 0} (x y z : A) → z ≡ granted (layoutNumber t D s) x y → z ≡ x
+  field {A} x y z e = e ∙ ap (λ (k : ℕ). granted k x y) number-0
+
+  -- the place and the level that stand in the slices, by node number
+  abbrev pub placeOf : ℕ → ℤ
+  placeOf v = getD (u .places) v (pos 0)
+
+  abbrev pub levelOf : ℕ → ℕ
+  levelOf v = getD (u .levels) v 0
+
+  pub place-returned : (v : ℕ) → v < nodes t → placeOf v ≡ place D t v
+  unfolding placesOf
+  place-returned v h =
+      ap (λ (l : List ℤ). getD l v (pos 0)) (written (placesOf D t) (s .places) (u .places) (L .places))
+      ∙ List·getD-append (placesOf D t) (drop (length (placesOf D t)) (s .places)) (pos 0) v (omega (arith, h, length-map (upTo (nodes t)) (place D t), length-upTo (nodes t)))
+      ∙ map-upTo (place D t) (pos 0) (nodes t) v h
+
+  pub level-returned : (v : ℕ) → v < nodes t → levelOf v ≡ level t v
+  unfolding levelsOf
+  level-returned v h =
+      ap (λ (l : List ℕ). getD l v 0) (written (levelsOf t) (s .levels) (u .levels) (L .levels))
+      ∙ List·getD-append (levelsOf t) (drop (length (levelsOf t)) (s .levels)) 0 v (omega (arith, h, length-map (upTo (nodes t)) (level t), length-upTo (nodes t)))
+      ∙ map-upTo (level t) 0 (nodes t) v h
+
+  -- The record names two nodes, the left one first, exactly when they are side by side on a level, and each such pair once.
+  pub record-returned : (ps : List Pair) × (u .theRecord ≡ flat ps ++ drop (length (flat ps)) (s .theRecord)) × (length ps ≡ a .pairs)
+      × ((x y : ℕ) → pairCount x y ps ≡ pairCount x y (neighbours t)) × ((x y : ℕ) → pairCount x y ps ≤ 1)
+  record-returned =
+      let r = L .theRecord in (
+        r .0,
+        written (flat (r .0)) (s .theRecord) (u .theRecord) (r .2),
+        r .1 .many ∙ sym (field (length (neighbours t)) 0 (a .pairs) (L .pairs)),
+        r .1 .each,
+        (λ x y. omega (arith, r .1 .each x y, neighbours-once t accepted x y)),
+      )
+
+  -- pairs = nodes - levels
+  pub pairs-returned : a .pairs + a .levels ≡ a .nodes
+  pairs-returned =
+      omega (arith, field (length (neighbours t)) 0 (a .pairs) (L .pairs), field (levelCount t) 0 (a .levels) (L .levelCount), field (nodes t) 0 (a .nodes) (L .nodes), neighbours-count t accepted)
+
+  -- neighbours stand in tree order, at least the separation apart
+  pub apart-returned : All (λ p. (placeOf (p .0) +ℤ pos D) ≤ℤ (placeOf (p .1))) (neighbours t)
+  apart-returned =
+      both (λ p. (p .0 < nodes t) × (p .1 < nodes t)) (λ p. (place D t (p .0) +ℤ pos D) ≤ℤ (place D t (p .1))) (λ p. (placeOf (p .0) +ℤ pos D) ≤ℤ (placeOf (p .1)))
+      (λ p b h. subst₂ (λ (x y : ℤ). (x +ℤ pos D) ≤ℤ y) (sym (place-returned (p .0) (b .0))) (sym (place-returned (p .1) (b .1))) h) (neighbours t)
+      (below-neighbours t accepted) (neighbours-apart D t accepted)
+
+  -- least and greatest are the places of two nodes, and no place is outside them
+  pub least-returned : ((v : ℕ) → v < nodes t → a .least ≤ℤ placeOf v) × ((v : ℕ) × (v < nodes t) × (placeOf v ≡ a .least))
+  least-returned =
+      let e = field (leastOf (placesOf D t)) (pos 0) (a .least) (L .least) in
+      let m = least-met D t accepted in (
+        (λ v h. subst₂ (λ (x y : ℤ). x ≤ℤ y) (sym e) (sym (place-returned v h)) (least-bounds D t accepted v h)),
+        (m .0, m .1, place-returned (m .0) (m .1) ∙ m .2 ∙ sym e),
+      )
+
+  pub greatest-returned : ((v : ℕ) → v < nodes t → placeOf v ≤ℤ a .greatest) × ((v : ℕ) × (v < nodes t) × (placeOf v ≡ a .greatest))
+  greatest-returned =
+      let e = field (greatestOf (placesOf D t)) (pos 0) (a .greatest) (L .greatest) in
+      let m = greatest-met D t accepted in (
+        (λ v h. subst₂ (λ (x y : ℤ). x ≤ℤ y) (sym (place-returned v h)) (sym e) (greatest-bounds D t accepted v h)),
+        (m .0, m .1, place-returned (m .0) (m .1) ∙ m .2 ∙ sym e),
+      )
+
+-- ---- two calls of one separation, or one call taken twice
+
+-- every two corresponding nodes differ by one shift in place and one difference in depth
+pub record ReturnedEqually (places places′ : ℕ → ℤ) (levels levels′ : ℕ → ℕ) (ps : List Pair) : Type 0 where
+  pub shift : ℤ
+  pub depth : ℤ
+  pub shifted : All (λ p. places′ (p .1) ≡ places (p .0) +ℤ shift) ps
+  pub deeper : All (λ p. pos (levels′ (p .1)) ≡ pos (levels (p .0)) +ℤ depth) ps
+
+module _ (D : ℕ) (t : List ℕ) (s : Slices) (a : Answer) (u : Slices) (L : Layout t D s a u) (granted-call : a .number ≡ 0)
+    (t′ : List ℕ) (s′ : Slices) (a′ : Answer) (u′ : Slices) (L′ : Layout t′ D s′ a′ u′) (granted-call′ : a′ .number ≡ 0) where
+  pub shapes-returned : (v w : ℕ) → v < nodes t → w < nodes t′ → sameOrderedShape t v t′ w ≡ true
+      → ReturnedEqually (placeOf t D s a u L granted-call) (placeOf t′ D s′ a′ u′ L′ granted-call′) (levelOf t D s a u L granted-call) (levelOf t′ D s′ a′ u′ L′ granted-call′)
+      (correspondingUnder t v t′ w)
+  unfolding correspondingUnder
+  shapes-returned v w hv hw same =
+      let E = shapes-equal D t t′ (accepted t D s a u L granted-call) (accepted t′ D s′ a′ u′ L′ granted-call′) v w hv hw same in
+      let inside : All (λ p. (p .0 < nodes t) × (p .1 < nodes t′)) ((v, w) ∷ corresponding (under t v) (under t′ w)) = (
+        (hv, hw),
+        below-corresponding (nodes t) (nodes t′) (under t v) (under t′ w) (below-under t (accepted t D s a u L granted-call) v hv) (below-under t′ (accepted t′ D s′ a′ u′ L′ granted-call′) w hw),
+      ) in
+      record {
+        shift = E .shift;
+        depth = E .depth;
+        shifted = both (λ p. (p .0 < nodes t) × (p .1 < nodes t′)) _ _
+            (λ p b h. place-returned t′ D s′ a′ u′ L′ granted-call′ (p .1) (b .1) ∙ h ∙ ap (λ (x : ℤ). x +ℤ E .shift) (sym (place-returned t D s a u L granted-call (p .0) (b .0))))
+            ((v, w) ∷ corresponding (under t v) (under t′ w)) inside (E .places);
+        deeper = both (λ p. (p .0 < nodes t) × (p .1 < nodes t′)) _ _
+            (λ p b h. ap pos (level-returned t′ D s′ a′ u′ L′ granted-call′ (p .1) (b .1)) ∙ h ∙ ap (λ (x : ℕ). pos x +ℤ E .depth) (sym (level-returned t D s a u L granted-call (p .0) (b .0))))
+            ((v, w) ∷ corresponding (under t v) (under t′ w)) inside (E .levels);
+      }
