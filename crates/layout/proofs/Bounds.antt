@@ -1,31 +1,50 @@
 -- No dot of a row or of a subtree is far from 0: a run of level order has few nodes, so its drawing is narrow. Assumes nothing.
-use mathlib.Core.Path.{_≡_, refl, sym, ap, ap₂, _∙_, subst, subst₂}
+use mathlib.Core.Path.{_≡_, refl, sym, ap, _∙_, subst}
 use mathlib.Core.List.{List, [], _∷_, _++_, List·Memᴰ, List·Memᴰ·head}
-use Prim.Native.Nat.{ℕ, zero, suc, _+_, _-_, _*_, _≤_, _<_}
-use native.Mathlib.Nat.{le-refl, le-trans, mul-le-mul-left, mul-le-mul-right}
+use Prim.Native.Nat.{ℕ, zero, suc, _+_, _-_, _≤_, _<_}
+use native.Mathlib.Nat.{le-trans, not-suc-le-zero, mul-le-mul-left, mul-le-mul-right}
 use native.Mathlib.Omega.{arith}
 use lib.IntN.{ℤ, pos, negsuc, _+ℤ_, _-ℤ_}
 use lib.ListN.{length}
-use Rattle.tree.specs.Forest.{Forest, nil, node, join, size}
+use Rattle.tree.specs.Forest.{size}
 use Rattle.tree.proofs.Walked.{size-join}
-use Rattle.rule.specs.Drawing.{Drawing, none, at, width, lastPlace, Dot, dot, dots, rowDots, firstOf, lastOf}
-use Rattle.rule.specs.Join.{above0, start, alone}
-use Rattle.rule.specs.Rule.{draw}
-use Rattle.rule.proofs.Signed.{below0, parts-add, AtMost}
-use Rattle.rule.proofs.Names.{Some, some, names, names-draw}
+use Rattle.rule.specs.Drawing.{Drawing, none, at, width, lastPlace, middle, Dot, dot, dots, rowDots, lastOf}
+use Rattle.rule.specs.Join.{alone}
+use Rattle.rule.proofs.Signed.{parts-add, AtMost}
+use Rattle.rule.proofs.Names.{some, names, names-draw}
 use Rattle.rule.proofs.Spacing.{row-none}
-use Rattle.rule.proofs.Within.{OnLevel, top, down}
-use Rattle.rule.proofs.Width.{Narrow, span, narrow-drawOnto, narrow-none, narrow-alone, last-mem}
+use Rattle.rule.proofs.Within.{OnLevel, top, down, on-left, on-right}
+use Rattle.rule.proofs.Width.{Narrow, span, narrow-draw, narrow-drawOnto, narrow-none, narrow-alone, last-mem}
 use Rattle.layout.specs.Rows.{placeAt, rowDrawn, childrenDrawn}
 use Rattle.layout.specs.Leaves.{magnitude}
-use Rattle.layout.proofs.Positions.{Ordered, mono-le, within, run, family, run-node, run-nil, run-cut}
-use Rattle.layout.proofs.Places.{row-width, row-first, last-place, start-place}
+use Rattle.layout.proofs.Positions.{Ordered, mono-le, within, run, run-node, run-nil, run-cut}
+use Rattle.layout.proofs.Places.{row-width, row-first}
 use Rattle.layout.proofs.Steps.{row-top}
 
 -- a dot of one of the levels
 pub on-here : (us : List (List Dot)) (x : List Dot) (xs : List (List Dot)) (e : Dot) → List·Memᴰ e x → OnLevel e (length us) (us ++ (x ∷ xs))
 on-here [] x xs e m = top m
 on-here (u ∷ us) x xs e m = down (on-here us x xs e m)
+
+-- the children of a row are among its dots
+place-dot : (o : ℤ) (d : Drawing) (j : ℕ) → j < width d → (w : ℕ) × OnLevel (dot 0 w (o +ℤ pos (placeAt d j))) 0 (dots 0 o d)
+place-dot o none j h = absurd (not-suc-le-zero h)
+place-dot o (at u x below after) zero h = (u, on-left (dots 0 o after) (top (List·Memᴰ·head refl)))
+place-dot o (at u x below after) (suc j) h =
+    let r = place-dot o after j (omega arith) in
+    (r .0, on-right ((dot 0 u (o +ℤ pos x) ∷ []) ∷ dots 0 (o +ℤ pos x -ℤ pos (middle below)) below) (r .1))
+
+narrow-place : (w : ℕ) (d : Drawing) (j : ℕ) → j < width d → Narrow w (dots 0 (pos 0) d) → placeAt d j ≤ placeAt d 0 + w
+narrow-place w d j h n =
+    let r = place-dot (pos 0) d j h in
+    let s = place-dot (pos 0) d 0 (omega arith) in
+    omega (
+      arith,
+      n (dot 0 (r .0) (pos 0 +ℤ pos (placeAt d j))) (dot 0 (s .0) (pos 0 +ℤ pos (placeAt d 0))) 0 0 (r .1) (s .1),
+      parts-add (pos 0) (pos (placeAt d 0)),
+      parts-add (pos 0) (pos (placeAt d j)),
+      parts-add (pos 0 +ℤ pos (placeAt d 0)) (pos w),
+    )
 
 -- a number within w of s
 pub near : (z : ℤ) (s w : ℕ) → AtMost z (pos s +ℤ pos w) → AtMost (pos s) (z +ℤ pos w) → magnitude z ≤ s + w
@@ -112,3 +131,13 @@ module _ (first : ℕ → ℕ) (n : ℕ) (O : Ordered first n) where
         here : (b : Drawing) → OnLevel (dot i c (pos (0 + x))) 0 (dots i (pos 0) (alone c x b))
         here none = top (List·Memᴰ·head refl)
         here (at u y b a) = top (List·Memᴰ·head refl)
+
+    -- every child of a row
+    pub place-bound : (a b : ℕ) → a < b → b ≤ n → b ≤ first a → (j : ℕ) → j < b - a → placeAt (rowDrawn first n D a b) j ≤ 1047552
+    place-bound a b h hb k j l =
+        omega (
+          arith,
+          narrow-place (span D (size (run first n O a b))) (rowDrawn first n D a b) j (omega (arith, row-width first n O D (b - a) a b (omega arith) hb)) (narrow-draw D 0 (pos 0) (run first n O a b)),
+          span-small (size (run first n O a b)) (size-run a b (omega arith) hb k),
+          row-first first n O D (b - a - 1) a b (omega arith) hb,
+        )

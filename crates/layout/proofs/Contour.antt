@@ -1,39 +1,40 @@
 -- The walk of one join over the working slice: what holds on every level, from the start. Assumes nothing.
-use mathlib.Core.Path.{_≡_, refl, sym, ap, ap₂, _∙_, subst, subst₂}
-use mathlib.Core.Logic.{_⊎_, inl, inr, ⊎-elim}
-use mathlib.Core.List.{List, [], _∷_, _++_, List·Memᴰ}
-use Prim.Native.Nat.{ℕ, zero, suc, _+_, _-_, _*_, _≤_, _<_}
-use native.Mathlib.Nat.{le-refl, le-trans, not-suc-le-zero}
+use mathlib.Core.Path.{_≡_, refl, sym, ap, _∙_, subst}
+use mathlib.Core.Logic.{_⊎_, inl}
+use mathlib.Core.List.{List, [], _∷_, List·Memᴰ}
+use Prim.Native.Nat.{ℕ, suc, _+_, _-_, _*_, _≤_, _<_}
+use native.Mathlib.Nat.{not-suc-le-zero}
 use native.Mathlib.Omega.{arith}
-use lib.IntN.{ℤ, pos, _+ℤ_, _-ℤ_}
+use lib.IntN.{ℤ, pos, _+ℤ_}
 use lib.ListN.{length, drop}
 use Rattle.tree.specs.Table.{nodes}
 use Rattle.tree.specs.Forest.{Forest, nil, node, treeOf, preorder}
 use Rattle.tree.specs.Numbers.{count}
-use Rattle.tree.proofs.Counting.{All, all-right}
+use Rattle.tree.proofs.Counting.{All}
 use Rattle.rule.specs.Drawing.{Drawing, none, at, width, lastPlace, Dot, dot, dots, rowDots, firstOf, lastOf, leftContour, rightContour}
-use Rattle.rule.specs.Join.{Meeting, above0, start, alone, total, meetings, settled}
+use Rattle.rule.specs.Join.{start, alone, total, meetings, settled}
 use Rattle.rule.specs.Join as rule
-use Rattle.rule.proofs.Names.{Some, some, names, names-draw, nodes-dots, nodes-rowDots}
-use Rattle.rule.proofs.Spacing.{last-in, row-drawOnto, row-none}
+use Rattle.rule.proofs.Names.{Some, some, names-draw, nodes-dots, nodes-rowDots}
+use Rattle.rule.proofs.Spacing.{row-drawOnto, row-none}
 use Rattle.rule.proofs.AtOnce.{total-append}
 use Rattle.rule.proofs.Within.{OnLevel}
 use Rattle.rule.proofs.Width.{last-mem, first-mem}
 use Rattle.rule.proofs.Tight.{on-names}
 use Rattle.layout.specs.LevelOrder.{firstAt}
-use Rattle.layout.specs.Fields.{cell, get, put, NODE, FIRST, COUNT, PARENT, PLACE, LEFT, RIGHT, ANCESTOR, SHIFT, CHANGE}
+use Rattle.layout.specs.Fields.{get, FIRST, COUNT, PLACE, LEFT, RIGHT, ANCESTOR, SHIFT, CHANGE}
 use Rattle.layout.specs.Leaves.{magnitude}
-use Rattle.layout.specs.Rows.{Columns, Outside, Owned, placeAt, rowDrawn, childrenDrawn}
+use Rattle.layout.specs.Rows.{placeAt, rowDrawn, childrenDrawn}
 use Rattle.layout.specs.Contours.{LeftSteps, RightSteps}
 use Rattle.layout.specs.Descent.{Reads, Modest, Level}
 use Rattle.layout.specs.Joining.{columnsOf, occurs, Given, Siblings, Rowed, Waiting}
-use Rattle.layout.proofs.Positions.{Ordered, mono-le, within, run, family, run-node, run-nil, run-cut, count-join}
+use Rattle.layout.proofs.Positions.{Ordered, within, run, family, run-node, run-nil}
+use Rattle.layout.proofs.Occurs.{times-cut}
 use Rattle.layout.proofs.Runs.{Runs, runs-draw, runs-alone}
 use Rattle.layout.proofs.Walk.{Join, Fields, Stand, Walking}
 use Rattle.layout.proofs.WalkEnds.{walk-start}
 use Rattle.layout.proofs.Places.{row-more, row-width, join-new, last-place, start-place, row-first, first-place}
 use Rattle.layout.proofs.Steps.{row-top, subtree-left, subtree-right}
-use Rattle.layout.proofs.RowNext.{fieldsOf, theRow, theChild, rowLevels, childLevels, the-width, rule-row, rule-child, theJoin}
+use Rattle.layout.proofs.RowNext.{fieldsOf, theRow, theChild, the-width, theJoin}
 use Rattle.layout.proofs.Bounds.{on-here, row-near, row-bound, alone-near}
 
 -- what a join starts from
@@ -94,14 +95,10 @@ module _ (t : List ℕ) (D f c end default : ℕ) (before : List ℤ) (K : Joini
   -- ---- no position is both in the row and in the child
 
   pub occurs-next : (z : ℕ) → occurs t f (suc c) z ≡ occurs t f c z + occurs t c (suc c) z
-  occurs-next z =
-      ap (λ (g : Forest). count z (preorder g)) (run-cut first n O (c - f) f c (suc c) (omega (arith, S .some)) (omega arith) small-n)
-      ∙ count-join first n O z (run first n O f c) (run first n O c (suc c))
+  occurs-next z = times-cut first n O f c (suc c) z (omega (arith, S .some)) (omega arith) small-n
 
   occurs-all : (z : ℕ) → occurs t f end z ≡ occurs t f (suc c) z + occurs t (suc c) end z
-  occurs-all z =
-      ap (λ (g : Forest). count z (preorder g)) (run-cut first n O (suc c - f) f (suc c) end (omega (arith, S .some)) (K .inside) (S .fits))
-      ∙ count-join first n O z (run first n O f (suc c)) (run first n O (suc c) end)
+  occurs-all z = times-cut first n O f (suc c) end z (omega (arith, S .some)) (K .inside) (S .fits)
 
   pub apart : (z : ℕ) → 1 ≤ occurs t f c z → 1 ≤ occurs t c (suc c) z → ⊥
   apart z h g = omega (arith, h, g, occurs-next z, occurs-all z, S .alone z)

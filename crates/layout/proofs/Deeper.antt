@@ -1,26 +1,23 @@
 -- From one level of the walk to the next: where both contours go on, the stand below. Assumes nothing.
-use mathlib.Core.Path.{_≡_, refl, sym, ap, ap₂, _∙_, subst, subst₂}
+use mathlib.Core.Path.{_≡_, refl, sym, ap, _∙_, subst}
 use mathlib.Core.Logic.{_⊎_, inl, inr, ⊎-elim}
 use mathlib.Core.Bool.{Bool, true, false, _||_}
-use mathlib.Core.List.{List, [], _∷_, _++_}
-use Prim.Native.Nat.{ℕ, zero, suc, _+_, _-_, _*_, _≤_, _<_}
+use mathlib.Core.List.{List, [], _∷_}
+use Prim.Native.Nat.{ℕ, suc, _+_, _-_, _<_}
 use native.Mathlib.Omega.{arith}
-use borrow.Author.Tests.{eq-eqb, ne-eqb}
+use borrow.Author.Tests.{eq-eqb}
 use lib.Dec.{eqb}
-use lib.IntN.{ℤ, pos, _+ℤ_, _-ℤ_}
-use lib.ListN.{length}
+use lib.IntN.{ℤ, pos, _+ℤ_}
 use Rattle.tree.specs.Table.{nodes}
 use Rattle.tree.specs.Forest.{treeOf}
 use Rattle.rule.specs.Drawing.{Dot, firstOf, lastOf}
-use Rattle.rule.specs.Join.{above0, start}
+use Rattle.rule.specs.Join.{above0}
 use Rattle.layout.specs.LevelOrder.{firstAt}
 use Rattle.layout.specs.Fields.{get, FIRST, COUNT, LEFT, RIGHT, ANCESTOR, SHIFT, CHANGE}
-use Rattle.layout.specs.Rows.{rowDrawn}
-use Rattle.layout.specs.Descent.{Modest, Level, Steps, isEnd, firstOfChildren, pastChildren}
+use Rattle.layout.specs.Descent.{Level, Steps, isEnd, firstOfChildren, pastChildren}
 use Rattle.layout.specs.Joining.{columnsOf}
-use Rattle.layout.proofs.Positions.{Ordered, mono-le, within}
 use Rattle.layout.proofs.Runs.{Runs}
-use Rattle.layout.proofs.Walk.{Join, Fields, Stand, Walking, Turned, amount, owner, down, walk-down}
+use Rattle.layout.proofs.Walk.{Fields, Stand, Walking, Turned, amount, owner, down, walk-down}
 use Rattle.layout.proofs.RowNext.{fieldsOf}
 use Rattle.layout.proofs.Contour.{Joining, Kept, Contour, stand, J, F, level}
 use Rattle.layout.proofs.Meeting.{close, next, turned, kept-next, same-close, met-before-c, last-position, last-child-position}

@@ -18,7 +18,8 @@ use Rattle.layout.specs.Rows.{Subtree}
 use Rattle.layout.specs.Descent.{Reads}
 use Rattle.layout.specs.Families.{Ready, FamilyPlaced, FamilyDrawn, FamiliesFrom}
 use Rattle.layout.proofs.Positions.{Ordered, mono-le, within}
-use Rattle.layout.proofs.SubtreeFrame.{apart, subtree-frame, subtree-leaf}
+use Rattle.layout.proofs.Occurs.{times-apart}
+use Rattle.layout.proofs.Kept.{subtree-kept, subtree-leaf}
 use Rattle.layout.proofs.OffsetsAll.{offsets-all}
 use Rattle.layout.proofs.Cells.{put-length, put-same, put-field, put-position, put-rest}
 
@@ -144,9 +145,9 @@ module _ (t : List ℕ) (D : ℕ) (O : Ordered (firstAt (treeOf t)) (nodes t)) w
     module _ (after : List ℤ) (F : FamilyDrawn t D r work after) where
       old-subtree : (q : ℕ) → suc r ≤ q → q < first r → Subtree first n D q (get after LEFT) (get after RIGHT)
       old-subtree q l k =
-          subtree-frame first n O D q (omega (arith, k, within first n O r (omega (arith, known)))) (get work LEFT) (get work RIGHT) (get after LEFT) (get after RIGHT)
-          (λ z h. F .left z (apart first n O r q z known l k h))
-          (λ z h. F .right z (apart first n O r q z known l k h))
+          subtree-kept first n O D q (omega (arith, k, within first n O r (omega (arith, known)))) (get work LEFT) (get work RIGHT) (get after LEFT) (get after RIGHT)
+          (λ z h. F .left z (times-apart first n O r q z known l k h))
+          (λ z h. F .right z (times-apart first n O r q z known l k h))
           (S .subtrees q l (omega (arith, k, up)))
 
       old-below : (z : ℕ) → first r ≤ z → z < n → (k : ℕ) × (first r ≤ k) × (get work ANCESTOR z ≡ pos k)

@@ -25,7 +25,7 @@ use Rattle.layout.specs.Families.{Ready, AllJoined, FamilyDrawn}
 use Rattle.layout.proofs.Cells.{put-length, put-same, put-field, put-position, put-rest}
 use Rattle.layout.proofs.Positions.{run}
 use Rattle.layout.proofs.Places.{first-place, last-place, row-first, row-width}
-use Rattle.layout.proofs.RowBound.{row-bound, place-bound}
+use Rattle.layout.proofs.Bounds.{row-bound, place-bound}
 use Rattle.layout.proofs.Occurs.{times-root, times-from}
 use Rattle.layout.proofs.Kept.{left-kept, right-kept}
 use Rattle.layout.proofs.FamilyStart.{first, f, end, O, work, later, fits, f-inside, one-level, other}
@@ -83,11 +83,11 @@ module _ (t : List ℕ) (D p : ℕ) (before : List ℤ) (G : Given t D) (R : Rea
 
   last-bound : lastPlace row ≤ 1047552
   last-bound =
-      row-bound (first t D p before (G .accepted) R) N (O t D p before (G .accepted) R) D F E (G .high) few (R .some) (one-level t D p before (G .accepted) R) up-to
+      row-bound (first t D p before (G .accepted) R) N (O t D p before (G .accepted) R) D few (G .high) F E (R .some) up-to (one-level t D p before (G .accepted) R)
 
   each-bound : (q : ℕ) → F ≤ q → q < E → placeAt row (q - F) ≤ 1047552
   each-bound q h k =
-      place-bound (first t D p before (G .accepted) R) N (O t D p before (G .accepted) R) D F E (G .high) few (R .some) (one-level t D p before (G .accepted) R) up-to
+      place-bound (first t D p before (G .accepted) R) N (O t D p before (G .accepted) R) D few (G .high) F E (R .some) up-to (one-level t D p before (G .accepted) R)
       (q - F) (omega arith)
 
   module _ (mid : List ℤ) (A : AllJoined t D F E (work t D p before (G .accepted) R) mid) where

@@ -1,37 +1,32 @@
 -- One child joined: the walk has ended, its thread is set and the child's place is written. Assumes nothing.
-use mathlib.Core.Path.{_≡_, refl, sym, ap, ap₂, _∙_, subst, subst₂, fun-ext}
+use mathlib.Core.Path.{_≡_, sym, ap, ap₂, _∙_, subst, subst₂, fun-ext}
 use mathlib.Core.Logic.{_⊎_, inl, inr, ⊎-elim}
 use mathlib.Core.Bool.{Bool, true, false, cond, _||_}
-use mathlib.Core.List.{List, [], _∷_, _++_}
-use Prim.Native.Nat.{ℕ, zero, suc, _+_, _-_, _*_, _≤_, _<_}
-use native.Mathlib.Nat.{le-refl, le-trans}
+use mathlib.Core.List.{List, [], _∷_}
+use Prim.Native.Nat.{ℕ, suc, _+_, _-_, _*_, _≤_, _<_}
 use native.Mathlib.Omega.{arith}
 use borrow.Author.Tests.{lt-ltb, le-ltb, ne-eqb}
-use lib.Dec.{eqb, ltb}
+use lib.Dec.{ltb}
 use lib.IntN.{ℤ, pos, _+ℤ_, _-ℤ_}
-use lib.ListN.{length, drop}
+use lib.ListN.{length}
 use Rattle.tree.specs.Table.{nodes}
 use Rattle.tree.specs.Forest.{treeOf}
 use Rattle.tree.proofs.Counting.{All, is-cases}
-use Rattle.rule.specs.Drawing.{Dot, lastPlace, firstOf, lastOf}
-use Rattle.rule.specs.Join.{start, total, meetings}
-use Rattle.rule.proofs.Names.{Some}
-use Rattle.rule.proofs.Within.{OnLevel, top, down}
-use Rattle.rule.proofs.Width.{last-mem}
+use Rattle.rule.specs.Drawing.{Dot, lastPlace, lastOf}
+use Rattle.rule.specs.Join.{start, total}
 use Rattle.layout.specs.LevelOrder.{firstAt}
-use Rattle.layout.specs.Fields.{cell, get, put, NODE, FIRST, COUNT, PARENT, PLACE, LEFT, RIGHT, ANCESTOR, SHIFT, CHANGE}
+use Rattle.layout.specs.Fields.{get, put, NODE, FIRST, COUNT, PARENT, PLACE, LEFT, RIGHT, ANCESTOR, SHIFT, CHANGE}
 use Rattle.layout.specs.Leaves.{magnitude}
-use Rattle.layout.specs.Rows.{Outside, Owned, Row, rowDrawn, childrenDrawn}
+use Rattle.layout.specs.Rows.{Outside, Owned, Row, rowDrawn}
 use Rattle.layout.specs.Contours.{LeftSteps, RightSteps}
 use Rattle.layout.specs.Descent.{isEnd, firstOfChildren, pastChildren, threaded, newDefault}
-use Rattle.layout.specs.Joining.{columnsOf, occurs, Siblings, Rowed, Untouched, Joined}
+use Rattle.layout.specs.Joining.{columnsOf, Siblings, Rowed, Untouched, Joined}
 use Rattle.layout.proofs.Cells.{put-length, put-same, put-field, put-position, put-rest}
-use Rattle.layout.proofs.Runs.{Runs}
-use Rattle.layout.proofs.Walk.{Join, Fields, Stand, Walking}
+use Rattle.layout.proofs.Walk.{Fields, Stand, Walking}
 use Rattle.layout.proofs.WalkEnds.{Ended}
 use Rattle.layout.proofs.RowNext.{fieldsOf, rule-row, row-next}
 use Rattle.layout.proofs.Contour.{Joining, Kept, J, F, row-on, apart, occurs-next, small-n, next-last, start-at}
-use Rattle.layout.proofs.Meeting.{close, next, kept-next, fields-same}
+use Rattle.layout.proofs.Meeting.{close, next, fields-same}
 use Rattle.layout.proofs.Deeper.{runs-cases, first-of, past-of, a-few, b-few}
 use Rattle.layout.proofs.Threaded.{Ends, ends-both, ends-child, ends-row, all-lasts}
 

@@ -1,5 +1,5 @@
 -- Stored steps are kept where the entries of the run's own positions are. Assumes nothing.
-use mathlib.Core.Path.{_≡_, refl, _∙_, subst}
+use mathlib.Core.Path.{_≡_, refl, sym, ap, _∙_, subst}
 use mathlib.Core.List.{List, [], _∷_}
 use Prim.Native.Nat.{ℕ, suc, _+_, _≤_, _<_}
 use native.Mathlib.Omega.{arith}
@@ -7,14 +7,14 @@ use lib.IntN.{ℤ, pos, _+ℤ_, _-ℤ_}
 use Rattle.tree.specs.Numbers.{count}
 use Rattle.tree.specs.Forest.{Forest, node, preorder}
 use Rattle.tree.proofs.Counting.{All, count-append, is-same}
-use Rattle.rule.specs.Drawing.{Drawing, none, at, middle, Dot, dot, dots, rowDots, firstOf, lastOf}
+use Rattle.rule.specs.Drawing.{Drawing, none, at, width, middle, Dot, dot, dots, rowDots, firstOf, lastOf}
 use Rattle.rule.specs.Join.{alone}
 use Rattle.rule.specs.Rule.{draw}
 use Rattle.rule.proofs.Names.{names, names-draw, Some}
 use Rattle.rule.proofs.Spacing.{first-in, last-in, beside-all, all-weaken, levels-weaken, row-drawOnto, row-none}
 use Rattle.layout.specs.Contours.{LeftSteps, RightSteps}
-use Rattle.layout.specs.Rows.{Subtree}
-use Rattle.layout.proofs.Positions.{Ordered, family}
+use Rattle.layout.specs.Rows.{Subtree, childrenDrawn}
+use Rattle.layout.proofs.Positions.{Ordered, family, run-nil}
 use Rattle.layout.proofs.Steps.{left-frame, right-frame, all-inner}
 use Rattle.layout.proofs.Occurs.{times, times-root}
 
@@ -95,3 +95,14 @@ module _ (first : ℕ → ℕ) (n : ℕ) (O : Ordered first n) (D c : ℕ) (insi
 
       root : 1 ≤ times first n O c (suc c) c
       root = omega (arith, times-root first n O c c inside, is-same c c refl)
+
+-- a subtree of one node
+pub subtree-leaf : (first : ℕ → ℕ) (n : ℕ) (O : Ordered first n) (D q : ℕ) (left right : ℕ → ℤ) → first (suc q) ≤ first q → Subtree first n D q left right
+subtree-leaf first n O D q left right h =
+    let nothing : childrenDrawn first n D q ≡ none = ap (draw D) (run-nil first n O (first q) (first (suc q)) h) in
+    record {
+      left-row = subst (λ (d : Drawing). LeftSteps left (rowDots 0 d)) (sym nothing) tt;
+      right-row = subst (λ (d : Drawing). RightSteps right (rowDots 0 d)) (sym nothing) tt;
+      left-root = λ w. absurd (omega (arith, w, ap width nothing));
+      right-root = λ w. absurd (omega (arith, w, ap width nothing));
+    }

@@ -22,7 +22,6 @@ pub mod RowNext
 pub mod Magnitude
 pub mod Bits
 pub mod OwnerOf
-pub mod OwnerRange
 pub mod Sums
 pub mod Shared
 pub mod Executing
@@ -33,14 +32,12 @@ pub mod Deeper
 pub mod Threaded
 pub mod JoinEnd
 pub mod Turn
-pub mod RowBound
 pub mod Occurs
 pub mod Kept
 pub mod Through
 pub mod FamilyStart
 pub mod FamilyEnd
 pub mod OffsetsAll
-pub mod SubtreeFrame
 pub mod FamiliesLoop
 pub mod Rename
 pub mod WaitingRows

@@ -1,10 +1,9 @@
 -- One level of the walk over the working slice: the meeting is gathered, and the child's last node is marked. Assumes nothing.
-use mathlib.Core.Path.{_≡_, refl, sym, ap, ap₂, _∙_, subst, subst₂, fun-ext}
+use mathlib.Core.Path.{_≡_, refl, sym, ap, _∙_, subst, subst₂, fun-ext}
 use mathlib.Core.Logic.{_⊎_, inl, inr, ⊎-elim}
 use mathlib.Core.Bool.{Bool, cond}
 use mathlib.Core.List.{List, [], _∷_, _++_}
 use Prim.Native.Nat.{ℕ, zero, suc, _+_, _-_, _*_, _/_, _≤_, _<_}
-use native.Mathlib.Nat.{le-refl, le-trans}
 use native.Mathlib.Omega.{arith}
 use lib.Dec.{eqb}
 use borrow.Author.Tests.{ne-eqb}
@@ -13,25 +12,24 @@ use lib.ListN.{length, drop}
 use Rattle.tree.specs.Table.{nodes}
 use Rattle.tree.specs.Forest.{treeOf}
 use Rattle.tree.proofs.Counting.{All, all-right, is-cases}
-use Rattle.rule.specs.Drawing.{width, lastPlace, Dot, firstOf, lastOf, rightContour, leftContour}
-use Rattle.rule.specs.Join.{above0, shortfall, start, total, meetings}
+use Rattle.rule.specs.Drawing.{width, Dot, lastOf}
+use Rattle.rule.specs.Join.{above0}
 use Rattle.rule.specs.Join as rule
-use Rattle.rule.proofs.Signed.{below0, parts-add, parts-sub, parts-eq}
+use Rattle.rule.proofs.Signed.{parts-add, parts-sub, parts-eq}
 use Rattle.rule.proofs.Spacing.{last-in}
-use Rattle.rule.proofs.AtOnce.{total-append}
 use Rattle.layout.specs.LevelOrder.{firstAt}
-use Rattle.layout.specs.Fields.{cell, get, put, ANCESTOR, SHIFT, CHANGE}
+use Rattle.layout.specs.Fields.{get, ANCESTOR, SHIFT, CHANGE}
 use Rattle.layout.specs.Leaves.{magnitude, ownerOf, shared}
-use Rattle.layout.specs.Rows.{Outside, Owned, rowDrawn, childrenDrawn}
+use Rattle.layout.specs.Rows.{Outside, Owned, rowDrawn}
 use Rattle.layout.specs.Descent.{tooClose, noted, marked}
 use Rattle.layout.specs.Joining.{columnsOf, occurs}
 use Rattle.layout.proofs.Cells.{put-length, put-same, put-field, put-position, put-rest}
 use Rattle.layout.proofs.Gathered.{Met}
 use Rattle.layout.proofs.OwnerOf.{owner-child, owner-default}
 use Rattle.layout.proofs.Shared.{shared-length, shared-position, shared-field, shared-rest, shared-met, shared-shift, shared-change}
-use Rattle.layout.proofs.Walk.{Join, Fields, Stand, Walking, Turned, amount, owner, whole-now}
+use Rattle.layout.proofs.Walk.{Fields, Stand, Walking, Turned, amount, owner}
 use Rattle.layout.proofs.RowNext.{fieldsOf, rule-row}
-use Rattle.layout.proofs.Contour.{Joining, Kept, J, F, row-on, child-on, apart, last-row-on, last-child-on, next-last, next-bound, start-at, row-wide, small-n}
+use Rattle.layout.proofs.Contour.{Joining, Kept, J, F, row-on, child-on, apart, last-row-on, last-child-on, row-wide, small-n}
 
 -- the owner on one of the levels
 owned-at : (ancestor : ℕ → ℤ) (f end default : ℕ) (us : List (List Dot)) (x : List Dot) (xs : List (List Dot)) → Owned ancestor f end default (us ++ (x ∷ xs))

@@ -58,3 +58,16 @@ module _ (first : ℕ → ℕ) (n : ℕ) (O : Ordered first n) where
 
   pub times-below : (a b z : ℕ) → b ≤ n → 1 ≤ times a b z → z < n
   times-below a b z h s = below-from n a b z h (omega arith) s
+
+  -- the subtrees at r and at a later position before r's children have no node in common
+  pub times-apart : (r q z : ℕ) → r < n → r < q → q < first r → 1 ≤ times q (suc q) z → times r (suc r) z ≡ 0
+  times-apart r q z h l k s =
+      let fits : first r ≤ n = within first n O r (omega arith) in
+      omega (
+        arith,
+        s,
+        only-once first n O (n - r) r (omega arith) z .0,
+        times-cut r (suc r) (first r) z (omega arith) (omega arith) fits,
+        times-cut (suc r) q (first r) z l (omega arith) fits,
+        times-cut q (suc q) (first r) z (omega arith) k fits,
+      )

@@ -1,11 +1,11 @@
 -- Whose is a node: its ancestor where that is a child joined so far, and the default where the ancestor is out of date. Assumes nothing.
 use mathlib.Core.Path.{_≡_, refl, ap, ap₂, _∙_}
 use mathlib.Core.Logic.{⊎-elim}
-use mathlib.Core.Bool.{Bool, true, cond}
+use mathlib.Core.Bool.{Bool, true, false, cond}
 use Prim.Native.Nat.{ℕ, _+_, _≤_, _<_}
 use native.Mathlib.Omega.{arith}
 use lib.Dec.{ltb}
-use borrow.Author.Tests.{lt-ltb, le-ltb, ltb-true}
+use borrow.Author.Tests.{lt-ltb, le-ltb, ltb-true, ltb-false}
 use lib.IntN.{ℤ, pos, negsuc}
 use lib.Signed.{ltZ}
 use Rattle.tree.proofs.Counting.{below-or-not}
@@ -44,3 +44,17 @@ owner-default (pos k) f end c default o h =
   where
     inside : k < c → k < end
     inside g = omega arith
+
+-- ---- the owner is one of the children from f to c, where the default is
+
+abbrev Between : ℕ → ℕ → ℕ → Type 0
+Between f c i = (f ≤ i) × (i < c)
+
+pub owner-range : (z : ℤ) (f c default : ℕ) → f ≤ default → default < c → (f ≤ ownerOf z f c default) × (ownerOf z f c default < c)
+owner-range (pos k) f c default low high = go (ltb k f) (ltb k c) refl refl
+  where
+    go : (s t : Bool) → ltb k f ≡ s → ltb k c ≡ t → Between f c (cond s default (cond t k default))
+    go true t p q = (low, high)
+    go false true p q = (ltb-false k f p, ltb-true k c q)
+    go false false p q = (low, high)
+owner-range (negsuc k) f c default low high = (low, high)

@@ -1,15 +1,13 @@
 -- The default ancestor: after a join every node of the row's right contour that is out of date belongs to the default. Assumes nothing.
-use mathlib.Core.Path.{_≡_, refl, sym, ap, ap₂, _∙_, subst, subst₂}
-use mathlib.Core.Logic.{_⊎_, inl, inr, ⊎-elim}
+use mathlib.Core.Path.{_≡_, sym, ap, _∙_, subst, subst₂}
+use mathlib.Core.Logic.{_⊎_, inl, inr}
 use mathlib.Core.List.{List, [], _∷_, _++_, map}
-use Prim.Native.Nat.{ℕ, zero, suc, _+_, _-_, _≤_, _<_}
-use native.Mathlib.Omega.{arith}
+use Prim.Native.Nat.{ℕ, _+_, _-_}
 use lib.IntN.{ℤ, pos}
 use Rattle.tree.specs.Levels.{beside}
 use Rattle.tree.proofs.Counting.{All}
 use Rattle.rule.specs.Drawing.{Dot, lastOf}
 use Rattle.rule.proofs.Names.{Some, some}
-use Rattle.rule.proofs.Moving.{shiftBy, moveBy}
 use Rattle.rule.proofs.Spacing.{last-in, last-map, last-append}
 use Rattle.layout.specs.Rows.{Outside, Owned}
 

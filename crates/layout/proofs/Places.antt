@@ -1,19 +1,19 @@
 -- The places of the children in a row, before and after a join. Assumes nothing.
-use mathlib.Core.Path.{_≡_, refl, sym, ap, ap₂, _∙_, subst}
+use mathlib.Core.Path.{_≡_, refl, sym, ap, _∙_}
 use mathlib.Core.List.{List, [], _∷_}
 use Prim.Native.Nat.{ℕ, zero, suc, _+_, _-_, _≤_, _<_}
 use native.Mathlib.Nat.{not-suc-le-zero, add-zero, zero-add}
 use native.Mathlib.Omega.{arith}
 use Rattle.tree.specs.Forest.{Forest, nil, node, join}
 use Rattle.rule.specs.Drawing.{Drawing, none, at, width, append, firstPlace, lastPlace}
-use Rattle.rule.specs.Join.{Meeting, shares, total, spread, start, alone, settled, meetings}
+use Rattle.rule.specs.Join.{Meeting, shares, spread, start, alone, settled, meetings}
 use Rattle.rule.specs.Join as rule
-use Rattle.rule.specs.Rule.{drawOnto, draw}
+use Rattle.rule.specs.Rule.{draw}
 use Rattle.rule.proofs.Moving.{width-join, width-spread}
 use Rattle.rule.proofs.Tight.{drawOnto-join}
 use Rattle.rule.proofs.Spacing.{share-none}
 use Rattle.layout.specs.Rows.{placeAt, rowDrawn, childrenDrawn}
-use Rattle.layout.proofs.Positions.{Ordered, run, family, run-last, run-nil, run-node}
+use Rattle.layout.proofs.Positions.{Ordered, run, family, run-last, run-nil}
 
 append-left : (d e : Drawing) (p : ℕ) → p < width d → placeAt (append d e) p ≡ placeAt d p
 append-left none e p h = absurd (not-suc-le-zero h)

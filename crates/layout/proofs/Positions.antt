@@ -1,21 +1,14 @@
 -- The forest of a run of positions: its first node and its last, its nodes, and the runs on its levels. Assumes nothing.
-use mathlib.Core.Path.{_≡_, refl, sym, ap, ap₂, _∙_, subst, subst₂}
+use mathlib.Core.Path.{_≡_, refl, sym, ap, ap₂, _∙_, subst}
 use mathlib.Core.Logic.{_⊎_, inl, inr, ⊎-elim}
 use mathlib.Core.Bool.{Bool, true, false}
-use mathlib.Core.List.{List, [], _∷_, _++_, map}
 use Prim.Native.Nat.{ℕ, zero, suc, _+_, _-_, _≤_, _<_}
-use native.Mathlib.Nat.{not-suc-le-zero, le-refl, le-trans}
+use native.Mathlib.Nat.{le-refl, le-trans}
 use native.Mathlib.Omega.{arith}
-use lib.Dec.{ltb}
-use lib.IntN.{ℤ, pos, _+ℤ_, _-ℤ_}
 use borrow.Author.Tests.{lt-ltb, le-ltb}
 use Rattle.tree.specs.Numbers.{is, count}
 use Rattle.tree.specs.Forest.{Forest, nil, node, join, preorder}
-use Rattle.tree.specs.Levels.{beside}
-use Rattle.tree.proofs.Counting.{is-cases, is-same, is-other, below-or-not, count-append}
-use Rattle.rule.specs.Drawing.{Drawing, none, at, width, middle, Dot, dot, dots, rowDots, firstOf, lastOf}
-use Rattle.rule.specs.Join.{alone}
-use Rattle.rule.proofs.Names.{names, Some, some}
+use Rattle.tree.proofs.Counting.{is-cases, below-or-not, count-append}
 use Rattle.layout.specs.LevelOrder.{positions}
 
 -- what level order has: children come later, in their parents' order, and there are n positions

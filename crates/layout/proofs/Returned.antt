@@ -1,9 +1,9 @@
 -- What an accepted call of the layout returns: the record, the order and the distance of neighbours, the extremes, and equal shapes in one
 -- call or in two of one separation. Assumes nothing.
-use mathlib.Core.Path.{_≡_, refl, sym, ap, ap₂, _∙_, subst, subst₂}
+use mathlib.Core.Path.{_≡_, sym, ap, _∙_, subst₂}
 use mathlib.Core.Bool.{true}
-use mathlib.Core.List.{List, [], _∷_, _++_, map}
-use Prim.Native.Nat.{ℕ, zero, suc, _+_, _*_, _≤_, _<_}
+use mathlib.Core.List.{List, [], _∷_, _++_}
+use Prim.Native.Nat.{ℕ, _+_, _≤_, _<_}
 use native.Mathlib.Omega.{arith}
 use lib.IntN.{ℤ, pos, _+ℤ_}
 use lib.ListN.{length, getD, drop, length-map, List·getD-append}
@@ -18,11 +18,11 @@ use Rattle.tree.specs.WellFormed.{tableNumber}
 use Rattle.tree.proofs.Counting.{All, Below, all-append, all-left, all-right}
 use Rattle.tree.proofs.Parts.{part-below}
 use Rattle.tree.proofs.Stands.{accepted-numbers}
-use Rattle.rule.specs.Record.{pairCount, SamePairs, flat}
+use Rattle.rule.specs.Record.{pairCount, flat}
 use Rattle.rule.specs.Result.{Slices, Answer, Layout, layoutNumber, place, placesOf, levelsOf, leastOf, greatestOf}
 use Rattle.rule.proofs.Promises.{neighbours-once, neighbours-count, neighbours-apart, part-at, shapes-equal}
 use Rattle.rule.proofs.Extremes.{least-bounds, greatest-bounds, least-met, greatest-met}
-use Rattle.layout.proofs.Answers.{Taken, taken}
+use Rattle.layout.proofs.Answers.{taken}
 use Rattle.layout.proofs.Settling.{map-upTo, length-upTo}
 
 -- ---- nodes of lists that are read off a tree are below n

@@ -1,19 +1,17 @@
 -- One child more: a row of joined children, a drawn subtree and a finished walk give the row with the subtree's root joined. Assumes nothing.
-use mathlib.Core.Path.{_≡_, refl, sym, ap, ap₂, _∙_, subst, subst₂}
-use mathlib.Core.Logic.{_⊎_, inl, inr, ⊎-elim}
-use mathlib.Core.List.{List, [], _∷_, _++_, map}
-use Prim.Native.Nat.{ℕ, zero, suc, _+_, _-_, _≤_, _<_}
-use native.Mathlib.Nat.{le-refl, le-trans}
+use mathlib.Core.Path.{_≡_, refl, sym, ap, ap₂, _∙_, subst}
+use mathlib.Core.Logic.{_⊎_, ⊎-elim}
+use mathlib.Core.List.{List, map}
+use Prim.Native.Nat.{ℕ, suc, _+_, _-_, _≤_, _<_}
+use native.Mathlib.Nat.{le-refl}
 use native.Mathlib.Omega.{arith}
-use lib.IntN.{ℤ, pos, _+ℤ_, _-ℤ_}
-use Rattle.tree.specs.Forest.{Forest, nil, node}
+use lib.IntN.{ℤ, pos, _+ℤ_}
 use Rattle.tree.specs.Levels.{beside}
-use Rattle.tree.proofs.Counting.{All, is-cases}
-use Rattle.rule.specs.Drawing.{Drawing, none, at, width, Dot, dot, dots, rowDots, firstOf, lastOf, leftContour, rightContour}
-use Rattle.rule.specs.Join.{Meeting, above0, meet, shares, total, start, alone, meetings, settled}
+use Rattle.tree.proofs.Counting.{is-cases}
+use Rattle.rule.specs.Drawing.{Drawing, none, width, Dot, dots, rowDots, leftContour}
+use Rattle.rule.specs.Join.{Meeting, above0, shares, total, start, alone, meetings, settled}
 use Rattle.rule.specs.Join as rule
-use Rattle.rule.specs.Rule.{draw}
-use Rattle.rule.proofs.Signed.{below0, parts-add, parts-sub, parts-eq}
+use Rattle.rule.proofs.Signed.{below0, parts-add, parts-eq}
 use Rattle.rule.proofs.Moving.{shiftBy, moveBy, rowDots-join}
 use Rattle.rule.proofs.Spacing.{Row as RuleRow, Child, alone-child, row-drawOnto, row-none}
 use Rattle.layout.specs.Contours.{LeftSteps, RightSteps}

@@ -1,16 +1,15 @@
 -- The boundary lemma: the nodes one level below a run of neighbouring positions are again such a run, and so the contours of a drawing of
 -- positions are known from the run's two ends. Assumes nothing.
-use mathlib.Core.Path.{_≡_, refl, sym, ap, ap₂, _∙_, subst, subst₂}
+use mathlib.Core.Path.{_≡_, refl, sym, ap, _∙_, subst}
 use mathlib.Core.List.{List, [], _∷_, _++_, map}
 use mathlib.Core.Logic.{_⊎_, ⊎-elim}
 use Prim.Native.Nat.{ℕ, zero, suc, _+_, _-_, _≤_, _<_}
-use native.Mathlib.Nat.{le-refl, le-trans}
 use native.Mathlib.Omega.{arith}
 use lib.IntN.{ℤ, pos, _+ℤ_, _-ℤ_}
-use Rattle.tree.specs.Forest.{Forest, nil, node, join}
+use Rattle.tree.specs.Forest.{Forest, nil, node}
 use Rattle.tree.specs.Levels.{beside}
 use Rattle.tree.proofs.Counting.{below-or-not}
-use Rattle.rule.specs.Drawing.{Drawing, none, at, width, middle, Dot, dot, dots, rowDots, firstOf, lastOf}
+use Rattle.rule.specs.Drawing.{Drawing, none, at, middle, Dot, dot, dots, rowDots, firstOf, lastOf}
 use Rattle.rule.specs.Join.{alone}
 use Rattle.rule.specs.Rule.{draw}
 use Rattle.rule.proofs.Names.{names, names-draw, Some, some}

@@ -1,9 +1,7 @@
 -- Stored steps: those of a subtree from those of its children's row, and steps that a write elsewhere leaves as they are. Assumes nothing.
-use mathlib.Core.Path.{_≡_, refl, sym, ap, ap₂, _∙_, subst, subst₂}
-use mathlib.Core.Logic.{_⊎_, ⊎-elim}
+use mathlib.Core.Path.{_≡_, refl, sym, ap, _∙_, subst, subst₂}
 use mathlib.Core.List.{List, [], _∷_, _++_, map}
-use Prim.Native.Nat.{ℕ, zero, suc, _+_, _-_, _≤_, _<_}
-use native.Mathlib.Nat.{le-refl, le-trans}
+use Prim.Native.Nat.{ℕ, suc, _+_, _-_, _≤_, _<_}
 use native.Mathlib.Omega.{arith}
 use lib.IntN.{ℤ, pos, _+ℤ_, _-ℤ_}
 use Rattle.tree.specs.Levels.{beside}
@@ -15,7 +13,6 @@ use Rattle.rule.proofs.Names.{Some, some}
 use Rattle.rule.proofs.Moving.{settle, dots-row}
 use Rattle.rule.proofs.Spacing.{first-map, last-map}
 use Rattle.layout.specs.Contours.{LeftSteps, RightSteps}
-use Rattle.layout.specs.Rows.{Subtree, childrenDrawn}
 use Rattle.layout.proofs.Positions.{Ordered, mono-le, within}
 use Rattle.layout.proofs.Runs.{Runs}
 

@@ -1,52 +1,19 @@
--- Sums and differences of small signed numbers: how large they get, and that they fit 32 bits and are read back as they were written.
+-- Sums and differences of small signed numbers fit 32 bits and are read back as they were written.
 -- Assumes nothing.
 use mathlib.Core.Path.{_≡_, ap₂, _∙_}
-use Prim.Native.Nat.{ℕ, _+_, _≤_, _<_}
+use Prim.Native.Nat.{_+_, _<_}
 use native.Mathlib.Omega.{arith}
-use lib.IntN.{ℤ, pos, negsuc, _+ℤ_, _-ℤ_}
+use lib.IntN.{ℤ, _+ℤ_, _-ℤ_}
 use lib.Signed.{mag}
 use mir.Syntax.{w32}
 use mir.Val.{SFits, toZ, ofZ}
 use mir.ValLaws.{toZ-ofZ}
-use Rattle.rule.specs.Join.{above0}
-use Rattle.rule.proofs.Signed.{below0, parts-add, parts-sub}
 use Rattle.layout.specs.Leaves.{magnitude}
-
--- ---- how large a sum and a difference get
-
-pub above-le : (z : ℤ) → above0 z ≤ magnitude z
-above-le (pos n) = omega arith
-above-le (negsuc n) = omega arith
-
-pub below-le : (z : ℤ) → below0 z ≤ magnitude z
-below-le (pos n) = omega arith
-below-le (negsuc n) = omega arith
-
--- one of the two parts is 0
-bounded : (z : ℤ) (a b k : ℕ) → above0 z + b ≡ a + below0 z → a ≤ k → b ≤ k → magnitude z ≤ k
-bounded (pos n) a b k e h g = omega arith
-bounded (negsuc n) a b k e h g = omega arith
-
-module _ (x y : ℤ) where
-  pub magnitude-add : magnitude (x +ℤ y) ≤ magnitude x + magnitude y
-  magnitude-add =
-      bounded (x +ℤ y) (above0 x + above0 y) (below0 x + below0 y) (magnitude x + magnitude y) (parts-add x y)
-      (omega (arith, above-le x, above-le y)) (omega (arith, below-le x, below-le y))
-
-  pub magnitude-sub : magnitude (x -ℤ y) ≤ magnitude x + magnitude y
-  magnitude-sub =
-      bounded (x -ℤ y) (above0 x + below0 y) (below0 x + above0 y) (magnitude x + magnitude y) (parts-sub x y)
-      (omega (arith, above-le x, below-le y)) (omega (arith, below-le x, above-le y))
-
--- ---- in 32 bits
-
-pub mag-le : (z : ℤ) → mag z ≤ magnitude z
-mag-le (pos n) = omega arith
-mag-le (negsuc n) = omega arith
+use Rattle.layout.proofs.Magnitude.{mag-magnitude}
 
 module _ (z : ℤ) (h : magnitude z < 2147483648) where
   pub small-fits : SFits w32 z
-  small-fits = record { sfits = omega (arith, mag-le z) }
+  small-fits = record { sfits = omega (arith, mag-magnitude z) }
 
   pub small-read : toZ w32 (ofZ w32 z) ≡ z
   small-read = toZ-ofZ w32 z small-fits

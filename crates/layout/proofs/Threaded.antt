@@ -1,40 +1,38 @@
 -- The end of the walk over the working slice: the longer contour is threaded, and every stored step stays good. Assumes nothing.
-use mathlib.Core.Path.{_≡_, refl, sym, ap, ap₂, _∙_, subst, subst₂, fun-ext}
-use mathlib.Core.Logic.{_⊎_, inl, inr, ⊎-elim}
-use mathlib.Core.Bool.{Bool, true, false, cond, _||_}
-use mathlib.Core.List.{List, [], _∷_, _++_, append-assoc, append-nil, List·Memᴰ}
-use Prim.Native.Nat.{ℕ, zero, suc, _+_, _-_, _*_, _≤_, _<_}
-use native.Mathlib.Nat.{le-refl, le-trans}
+use mathlib.Core.Path.{_≡_, refl, sym, ap, ap₂, _∙_, subst, fun-ext}
+use mathlib.Core.Logic.{_⊎_, ⊎-elim}
+use mathlib.Core.List.{List, [], _∷_, _++_, append-assoc, List·Memᴰ}
+use Prim.Native.Nat.{ℕ, suc, _+_, _-_, _*_, _≤_, _<_}
+use native.Mathlib.Nat.{le-trans}
 use native.Mathlib.Omega.{arith}
-use borrow.Author.Tests.{eqb-true, lt-ltb, le-ltb}
-use lib.Dec.{eqb, ltb}
 use lib.IntN.{ℤ, pos, _+ℤ_, _-ℤ_}
 use lib.ListN.{length, drop}
 use Rattle.tree.specs.Table.{nodes}
-use Rattle.tree.specs.Forest.{Forest, nil, node, treeOf, preorder}
-use Rattle.tree.specs.Numbers.{count, is}
+use Rattle.tree.specs.Forest.{node, treeOf}
+use Rattle.tree.specs.Numbers.{is}
 use Rattle.tree.proofs.Counting.{All, all-append, is-cases}
-use Rattle.rule.specs.Drawing.{Dot, dot, width, firstOf, lastOf}
+use Rattle.rule.specs.Drawing.{Dot, width, firstOf, lastOf}
 use Rattle.rule.specs.Join.{above0, start}
 use Rattle.rule.proofs.Signed.{below0, parts-add, parts-sub, parts-eq}
 use Rattle.rule.proofs.Names.{Some, some}
 use Rattle.rule.proofs.Within.{OnLevel, top, down}
 use Rattle.rule.proofs.Width.{last-mem, first-mem}
 use Rattle.layout.specs.LevelOrder.{firstAt}
-use Rattle.layout.specs.Fields.{cell, get, put, LEFT, RIGHT, ANCESTOR, SHIFT, CHANGE}
+use Rattle.layout.specs.Fields.{get, put, LEFT, RIGHT, ANCESTOR, SHIFT, CHANGE}
 use Rattle.layout.specs.Rows.{Outside, rowDrawn, childrenDrawn}
 use Rattle.layout.specs.Contours.{LeftSteps, RightSteps}
-use Rattle.layout.specs.Descent.{Modest, Threads, isEnd, firstOfChildren, pastChildren, threaded, newDefault}
+use Rattle.layout.specs.Descent.{Threads, threaded}
 use Rattle.layout.specs.Joining.{columnsOf, occurs}
 use Rattle.layout.proofs.Cells.{put-length, put-same, put-field, put-position, put-rest}
-use Rattle.layout.proofs.Positions.{Ordered, mono-le, within, run, family, run-node, run-nil}
+use Rattle.layout.proofs.Positions.{Ordered, mono-le, within, run, family}
+use Rattle.layout.proofs.Occurs.{times-root}
 use Rattle.layout.proofs.Runs.{Runs}
-use Rattle.layout.proofs.Steps.{Inner, left-frame, right-frame, all-inner, inner-weaken, inner-first, inner-last}
+use Rattle.layout.proofs.Steps.{left-frame, right-frame, all-inner, inner-weaken, inner-first, inner-last}
 use Rattle.layout.proofs.Walk.{Join, Fields, Stand, Walking, amount, unmarked-now}
 use Rattle.layout.proofs.WalkEnds.{Ended, child-ends, row-ends}
 use Rattle.layout.proofs.RowNext.{fieldsOf, rule-row, rule-child}
 use Rattle.layout.proofs.Bounds.{on-here}
-use Rattle.layout.proofs.Contour.{Joining, Kept, stand, J, F, row-modest, child-modest, row-on, child-on, apart, occurs-next, small-n, last-child-on, first-row-on, child-left, child-right, child-runs, row-runs, split-child}
+use Rattle.layout.proofs.Contour.{Joining, Kept, J, F, row-modest, child-modest, row-on, child-on, apart, occurs-next, small-n, last-child-on, first-row-on, child-left, child-right, child-runs, row-runs, split-child}
 use Rattle.layout.proofs.Meeting.{close, next, kept-next, same-close, met-before-c, last-position, last-child-position}
 use Rattle.layout.proofs.Deeper.{runs-cases, first-of, past-of, a-few, b-few, turned-amount}
 
@@ -313,9 +311,7 @@ module _ (t : List ℕ) (D f c end default : ℕ) (before : List ℤ) (K : Joini
         -- on the levels below the nodes are of the child's family
         in-family : (k : ℕ) → first (s .b) ≤ k → 1 ≤ occurs t c (suc c) k → 1 ≤ occurs t (first c) (first (suc c)) k
         in-family k h o =
-            let same : occurs t c (suc c) k ≡ is k c + occurs t (first c) (first (suc c)) k =
-            ap (λ (g : Forest). count k (preorder g)) (run-node first (nodes t) (K .ordered) c (suc c) (omega arith) (small-n t D f c end default before K) ∙ ap (node c (family first (nodes t) (K .ordered) c)) (run-nil first (nodes t) (K .ordered) (suc c) (suc c) (le-refl (suc c))))
-            ∙ ap (λ (l : List ℕ). is k c + count k l) (append-nil (preorder (family first (nodes t) (K .ordered) c))) in
+            let same = times-root first (nodes t) (K .ordered) c k (small-n t D f c end default before K) in
             ⊎-elim (λ q. absurd (omega (arith, q .0, h, reach, child-later))) (λ q. omega (arith, o, same, q .1)) (is-cases k c)
 
         there : All (λ l. 1 ≤ occurs t c (suc c) ((lastOf l) .node)) (W .ys)

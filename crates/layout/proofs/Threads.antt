@@ -2,20 +2,20 @@
 -- round; what lies on them has not been moved. Assumes nothing.
 use mathlib.Core.Path.{_≡_, refl, sym, ap, ap₂, _∙_, subst, subst₂}
 use mathlib.Core.List.{List, [], _∷_, _++_, map}
-use Prim.Native.Nat.{ℕ, zero, suc, _+_, _≤_, _<_}
+use Prim.Native.Nat.{ℕ, _+_, _≤_, _<_}
 use native.Mathlib.Nat.{le-refl, le-trans}
 use native.Mathlib.Omega.{arith}
 use lib.IntN.{ℤ, pos, _+ℤ_, _-ℤ_}
 use Rattle.tree.specs.Forest.{Forest, nil, node}
 use Rattle.tree.specs.Levels.{beside}
 use Rattle.tree.proofs.Counting.{All}
-use Rattle.rule.specs.Drawing.{Drawing, none, at, width, Dot, dot, dots, rowDots, firstOf, lastOf, leftContour, rightContour}
-use Rattle.rule.specs.Join.{Meeting, needed, shortfall, meet, shares, total, start, alone, join, meetings}
-use Rattle.rule.specs.Rule.{drawOnto, draw}
+use Rattle.rule.specs.Drawing.{Drawing, none, width, Dot, dot, dots, rowDots, firstOf, lastOf, leftContour, rightContour}
+use Rattle.rule.specs.Join.{needed, shortfall, meet, shares, total, start, alone, join, meetings}
+use Rattle.rule.specs.Rule.{drawOnto}
 use Rattle.rule.proofs.Signed.{parts-add, parts-sub, parts-eq}
 use Rattle.rule.proofs.Names.{Some, some}
 use Rattle.rule.proofs.Moving.{shiftBy, moveBy, rowDots-join}
-use Rattle.rule.proofs.Spacing.{share-none, Spaced, Falling, Row, Child, last-in, first-in, last-map, first-map, last-append, all-weaken, alone-child, row-join, row-none, row-drawOnto}
+use Rattle.rule.proofs.Spacing.{share-none, Spaced, Falling, Row, first-in, last-map, first-map, last-append, all-weaken, alone-child, row-join, row-none, row-drawOnto}
 use Rattle.layout.specs.Contours.{LeftSteps, RightSteps}
 
 -- ---- down the left contour the children are met from left to right

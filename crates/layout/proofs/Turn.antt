@@ -1,5 +1,5 @@
 -- What one turn of the contour walk asks and gives, in the terms of its code. Assumes nothing.
-use mathlib.Core.Path.{_≡_, refl, sym, ap, ap₂, _∙_, subst}
+use mathlib.Core.Path.{_≡_, refl, sym, ap, subst}
 use mathlib.Core.Bool.{true, false}
 use mathlib.Core.List.{List, [], _∷_, _++_}
 use Prim.Native.Nat.{ℕ, suc, _+_, _-_, _*_, _≤_, _<_}
@@ -8,19 +8,18 @@ use lib.IntN.{ℤ, pos, _+ℤ_}
 use lib.ListN.{length}
 use Rattle.tree.specs.Table.{nodes}
 use Rattle.tree.specs.Forest.{treeOf}
-use Rattle.rule.specs.Drawing.{rightContour, leftContour, lastOf}
+use Rattle.rule.specs.Drawing.{rightContour, leftContour}
 use Rattle.rule.specs.Join.{start, total}
 use Rattle.rule.specs.Join as rule
 use Rattle.rule.proofs.AtOnce.{total-append}
 use Rattle.layout.specs.LevelOrder.{firstAt}
 use Rattle.layout.specs.Fields.{get, put, FIRST, COUNT, PLACE, LEFT, RIGHT}
-use Rattle.layout.specs.Leaves.{magnitude}
 use Rattle.layout.specs.Rows.{rowDrawn}
-use Rattle.layout.specs.Descent.{Reads, Modest, Level, Threads, Steps, tooClose, noted, marked, isEnd, firstOfChildren, pastChildren, threaded, newDefault}
+use Rattle.layout.specs.Descent.{Reads, Level, Threads, Steps, tooClose, noted, marked, isEnd, firstOfChildren, pastChildren, threaded, newDefault}
 use Rattle.layout.specs.Joining.{columnsOf, Joined}
 use Rattle.layout.proofs.Walk.{Stand, Walking, whole-now, moved-now, amount, owner}
 use Rattle.layout.proofs.RowNext.{fieldsOf}
-use Rattle.layout.proofs.Contour.{Joining, Kept, Contour, stand, J, F, level, moved-most, next-last, next-bound, start-at, small-n, room, reads-first, reads-count, walk-begins, kept-at-first}
+use Rattle.layout.proofs.Contour.{Joining, Kept, Contour, stand, J, F, level, next-last, next-bound, start-at, small-n, room, reads-first, reads-count, walk-begins, kept-at-first}
 use Rattle.layout.proofs.Meeting.{close, next, kept-next, same-close, met-before-c}
 use Rattle.layout.proofs.Deeper.{stands, turned-amount, steps-below, contour-below, first-of, b-few}
 use Rattle.layout.proofs.Threaded.{threads}

@@ -1,26 +1,23 @@
 -- One turn of the contour walk, as facts about the levels of the row and of the new child: the boundaries and the places step down together,
 -- each meeting is gathered, and the levels passed are marked. Assumes nothing.
-use mathlib.Core.Path.{_≡_, refl, sym, ap, ap₂, _∙_, subst, subst₂}
-use mathlib.Core.Logic.{_⊎_, inl, inr, ⊎-elim}
-use mathlib.Core.Bool.{Bool, true, false, cond}
-use mathlib.Core.List.{List, [], _∷_, _++_, map, append-assoc, append-nil}
-use Prim.Native.Nat.{ℕ, zero, suc, _+_, _-_, _*_, _/_, _≤_, _<_}
-use native.Mathlib.Nat.{le-refl, le-trans, zero-div, mul-zero}
+use mathlib.Core.Path.{_≡_, sym, ap, ap₂, _∙_, subst}
+use mathlib.Core.Logic.{_⊎_, ⊎-elim}
+use mathlib.Core.List.{List, [], _∷_, _++_, append-assoc}
+use Prim.Native.Nat.{ℕ, suc, _+_, _-_, _*_, _/_, _≤_, _<_}
+use native.Mathlib.Nat.{le-trans, zero-div, mul-zero}
 use native.Mathlib.Omega.{arith}
 use lib.IntN.{ℤ, pos, _+ℤ_, _-ℤ_}
 use lib.ListN.{length, length-append}
-use Rattle.tree.proofs.Counting.{All, all-append, all-left, all-right, is-cases}
+use Rattle.tree.proofs.Counting.{All, all-append, all-left, all-right}
 use Rattle.rule.specs.Drawing.{Dot, firstOf, lastOf, leftContour, rightContour}
-use Rattle.rule.specs.Join.{Meeting, above0, needed, shortfall, meet, share, shares, total}
+use Rattle.rule.specs.Join.{Meeting, above0, shortfall, meet, share, shares, total}
 use Rattle.rule.proofs.Signed.{below0, parts-add, parts-sub, parts-eq}
-use Rattle.rule.proofs.Names.{Some, some}
 use Rattle.rule.proofs.AtOnce.{shares-append, total-append}
 use Rattle.layout.specs.Contours.{LeftSteps, RightSteps}
 use Rattle.layout.specs.Gather.{pending}
-use Rattle.layout.specs.Rows.{Outside, Owned}
 use Rattle.layout.proofs.Positions.{Ordered, mono-le, within}
 use Rattle.layout.proofs.Runs.{Runs}
-use Rattle.layout.proofs.Gathered.{Met, shareAt, pending-met, share-right, share-left}
+use Rattle.layout.proofs.Gathered.{Met, pending-met, share-right, share-left}
 
 -- what does not change while child c is joined to the row from f to c, one of the children from f to end
 pub record Join : Type 0 where

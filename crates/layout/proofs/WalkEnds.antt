@@ -1,19 +1,17 @@
 -- The two ends of the contour walk: where it starts, and what holds when either contour has no further level. Assumes nothing.
 use mathlib.Core.Path.{_≡_, refl, sym, ap, ap₂, _∙_, subst, subst₂}
-use mathlib.Core.List.{List, [], _∷_, _++_, map, append-nil}
-use Prim.Native.Nat.{ℕ, zero, suc, _+_, _-_, _≤_, _<_}
-use native.Mathlib.Nat.{le-refl, le-trans}
+use mathlib.Core.List.{List, [], _∷_, _++_, append-nil}
+use Prim.Native.Nat.{ℕ, _+_, _-_, _≤_, _<_}
 use native.Mathlib.Omega.{arith}
 use lib.IntN.{ℤ, pos, _+ℤ_, _-ℤ_}
 use lib.ListN.{length}
-use Rattle.tree.proofs.Counting.{All, all-append, all-left}
+use Rattle.tree.proofs.Counting.{All, all-left}
 use Rattle.rule.specs.Drawing.{Dot, firstOf, lastOf, leftContour, rightContour}
-use Rattle.rule.specs.Join.{Meeting, above0, meet, shares, total}
-use Rattle.rule.proofs.Signed.{below0, parts-add, parts-sub, parts-eq}
-use Rattle.rule.proofs.Names.{Some, some}
+use Rattle.rule.specs.Join.{Meeting, meet, shares, total}
+use Rattle.rule.proofs.Signed.{parts-add, parts-eq}
 use Rattle.layout.specs.Contours.{LeftSteps, RightSteps}
 use Rattle.layout.specs.Gather.{pending}
-use Rattle.layout.specs.Rows.{Outside, Owned}
+use Rattle.layout.specs.Rows.{Outside}
 use Rattle.layout.proofs.Runs.{Runs}
 use Rattle.layout.proofs.Threads.{RightThread, LeftThread}
 use Rattle.layout.proofs.Owners.{Marked, Default, kept, moved, lower}

@@ -1,14 +1,13 @@
 -- The steps of the contour walk, in the code's own shape.
 use Prim.Native.Nat.{ℕ, _+_, _-_, _*_, _≤_, _<_}
 use mathlib.Core.Path.{_≡_}
-use mathlib.Core.Bool.{Bool, true, cond, _||_}
+use mathlib.Core.Bool.{Bool, cond, _||_}
 use mathlib.Core.List.{List}
 use lib.Dec.{eqb, ltb}
 use lib.IntN.{ℤ, pos, _+ℤ_, _-ℤ_}
-use lib.Signed.{nonNeg}
 use lib.ListN.{length}
 use Rattle.rule.specs.Join.{above0}
-use Rattle.layout.specs.Fields.{cell, get, put, FIRST, COUNT, PLACE, LEFT, RIGHT, ANCESTOR, SHIFT, CHANGE}
+use Rattle.layout.specs.Fields.{cell, get, put, FIRST, COUNT, LEFT, RIGHT, ANCESTOR, SHIFT, CHANGE}
 use Rattle.layout.specs.Leaves.{magnitude, ownerOf, shared}
 
 -- the field is inside the slice and holds a small number that is not negative

@@ -1,8 +1,7 @@
 -- Level order. A forest's nodes are met level by level, and each gets the next position, from 0. Positions belong to level order, numbers
 -- to the table.
 use Prim.Native.Nat.{ℕ, zero, suc, _+_, _-_}
-use mathlib.Core.Bool.{Bool, true, false}
-use mathlib.Core.List.{List}
+use mathlib.Core.Bool.{true, false}
 use lib.Dec.{ltb}
 use lib.ListN.{length}
 use Rattle.tree.specs.Forest.{Forest, nil, node, join, roots, entry}

@@ -1,7 +1,5 @@
 // Draws every family, from the last position to the first.
-ghost use mathlib.Core.Path.{_≡_};
-ghost use mathlib.Core.Bool.{true};
-ghost use Prim.Native.Nat.{_+_, _-_, _*_, _≤_, _<_};
+ghost use Prim.Native.Nat.{_-_, _<_};
 ghost use Rattle.tree.specs.Forest.{treeOf};
 ghost use Rattle.tree.specs.Table.{nodes};
 ghost use Rattle.layout.specs.Fields;

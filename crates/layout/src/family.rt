@@ -1,8 +1,5 @@
 // Draws the children of one node as a row: each child is joined to its elder siblings, then the gathered moves are carried out.
-ghost use mathlib.Core.Path.{_≡_};
-ghost use mathlib.Core.Bool.{true};
-ghost use Prim.Native.Nat.{_+_, _-_, _*_, _≤_, _<_};
-ghost use Rattle.tree.specs.Table.{nodes};
+ghost use Prim.Native.Nat.{_+_, _-_, _<_};
 ghost use Rattle.layout.specs.Fields;
 ghost use Rattle.layout.specs.Joining.{Given};
 ghost use Rattle.layout.specs.Families.{Ready, FamilyDrawn, Begun, AllJoined};

@@ -6,7 +6,6 @@ ghost use lib.IntN.{pos, _+ℤ_};
 ghost use lib.ListN.{length};
 ghost use Rattle.rule.specs.Join.{above0};
 ghost use Rattle.layout.specs.Fields;
-ghost use Rattle.layout.specs.Fields.{cell};
 ghost use Rattle.layout.specs.Descent.{Reads, Modest, Level, Threads, Steps, tooClose, noted, marked, isEnd, threaded, newDefault, firstOfChildren, pastChildren};
 ghost use Rattle.layout.specs.Joining.{Given, Rowed, Waiting, Joined};
 use super::field::ANCESTOR;

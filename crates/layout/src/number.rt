@@ -6,7 +6,6 @@ ghost use lib.ListN.{length};
 ghost use Rattle.tree.specs.Table.{nodes};
 ghost use Rattle.tree.specs.Levels.{childrenOf};
 ghost use Rattle.tree.specs.WellFormed.{tableNumber};
-ghost use Rattle.layout.specs.Fields.{cell};
 ghost use Rattle.layout.specs.Appending.{queued, settled, Appended};
 ghost use Rattle.layout.specs.Stages.{NumberedFrom};
 use super::field::ANCESTOR;

@@ -5,7 +5,7 @@ ghost use lib.IntN.{pos};
 ghost use Rattle.tree.specs.WellFormed.{tableNumber};
 ghost use Rattle.rule.specs.Result as result;
 ghost use Rattle.layout.specs.Fields as fields;
-ghost use Rattle.layout.specs.LastPass.{Ready, Descends, descended, Seen, Writes, Written, Pairs, Paired, Lengths};
+ghost use Rattle.layout.specs.LastPass.{Ready, Descends, descended, Writes, Written, Pairs, Paired, Lengths};
 ghost use Rattle.layout.specs.LastPass as pass;
 use crate::field;
 

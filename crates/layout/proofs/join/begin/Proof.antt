@@ -8,7 +8,8 @@ use mir.Syntax.{w32}
 use mir.Val.{toZ, ofZ}
 use Rattle.layout.specs.Fields.{get, PLACE}
 use Rattle.layout.specs.Leaves.{magnitude}
-use Rattle.layout.proofs.Sums.{magnitude-add, small-read, result-read, add-fits, add-read}
+use Rattle.layout.proofs.Magnitude.{magnitude-add}
+use Rattle.layout.proofs.Sums.{small-read, result-read, add-fits, add-read}
 use Rattle.layout.proofs.join.begin.Statement.{statement}
 use Rattle.layout.proofs.join.begin.Tie as tie
 

@@ -1,10 +1,9 @@
 -- `layout::join::join` meets its contract. The measure is how many positions are left after the child's first node. Assumes nothing.
-use mathlib.Core.Path.{_≡_, refl, sym, ap, ap₂, _∙_, subst, subst₂}
+use mathlib.Core.Path.{_≡_, sym, ap, _∙_, subst, subst₂}
 use mathlib.Core.Bool.{true, false}
 use mathlib.Core.List.{List}
-use Prim.Native.Nat.{ℕ, _+_, _-_, _*_, _≤_, _<_}
+use Prim.Native.Nat.{ℕ, _+_, _-_, _*_, _≤_}
 use native.Mathlib.Omega.{arith}
-use borrow.Author.Needs.{needs}
 use lib.IntN.{ℤ, pos, _+ℤ_}
 use lib.ListN.{length}
 use mir.Syntax.{w32}
@@ -20,10 +19,9 @@ use Rattle.layout.specs.Rows.{rowDrawn}
 use Rattle.layout.specs.Descent.{Reads, Level, Threads, Steps, tooClose, isEnd, firstOfChildren, pastChildren, threaded, newDefault}
 use Rattle.layout.specs.Joining.{Joined}
 use Rattle.layout.proofs.Casts.{signed}
-use Rattle.layout.proofs.Cells.{put-length}
 use Rattle.layout.proofs.InOrder.{ordered}
 use Rattle.layout.proofs.Sums.{small-fits, small-read, add-fits, add-read}
-use Rattle.layout.proofs.Contour.{Joining, Contour, start-here, start-at, row-last-bound, last-at}
+use Rattle.layout.proofs.Contour.{Joining, Contour, start-here, row-last-bound, last-at}
 use Rattle.layout.proofs.Turn as turn
 use Rattle.layout.proofs.join.join.Statement.{statement}
 use Rattle.layout.proofs.join.join.Tie as tie

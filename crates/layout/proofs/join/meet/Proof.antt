@@ -16,8 +16,9 @@ use Rattle.layout.specs.Fields.{get, put, ANCESTOR}
 use Rattle.layout.specs.Leaves.{magnitude, shared}
 use Rattle.layout.specs.Descent.{Level, tooClose}
 use Rattle.layout.proofs.Casts.{signed, unsigned, unsigned-fits}
-use Rattle.layout.proofs.OwnerRange.{owner-range}
-use Rattle.layout.proofs.Sums.{magnitude-add, magnitude-sub, small-read, add-fits, add-read, sub-fits, sub-read}
+use Rattle.layout.proofs.OwnerOf.{owner-range}
+use Rattle.layout.proofs.Magnitude.{magnitude-add, magnitude-sub}
+use Rattle.layout.proofs.Sums.{small-read, add-fits, add-read, sub-fits, sub-read}
 use Rattle.layout.proofs.join.meet.Statement.{statement}
 use Rattle.layout.proofs.join.meet.Tie as tie
 

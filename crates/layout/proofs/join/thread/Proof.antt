@@ -11,7 +11,8 @@ use mir.Val.{toZ, ofZ}
 use Rattle.layout.specs.Fields.{get, put, LEFT, RIGHT}
 use Rattle.layout.specs.Leaves.{magnitude}
 use Rattle.layout.specs.Descent.{Level, firstOfChildren, pastChildren}
-use Rattle.layout.proofs.Sums.{magnitude-add, magnitude-sub, small-read, field-read, result-read, add-fits, add-read, sub-fits, sub-read}
+use Rattle.layout.proofs.Magnitude.{magnitude-add, magnitude-sub}
+use Rattle.layout.proofs.Sums.{small-read, field-read, result-read, add-fits, add-read, sub-fits, sub-read}
 use Rattle.layout.proofs.join.thread.Statement.{statement}
 use Rattle.layout.proofs.join.thread.Tie as tie
 
