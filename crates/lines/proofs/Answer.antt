@@ -1,0 +1,56 @@
+-- From a text that is stored at the buffer's start to what an operation promises, and what a test that held says. Assumes nothing.
+use mathlib.Core.Path.{_≡_, refl, sym, ap, _∙_, subst}
+use Prim.Native.Nat.{ℕ, _+_, _*_, _≤_}
+use native.Mathlib.Nat.{zero-add}
+use native.Mathlib.Omega.{arith}
+use mathlib.Core.Bool.{Bool, true, false, _&&_, true≢false}
+use mathlib.Core.List.{List, _++_}
+use lib.Dec.{leb}
+use lib.ListN.{length, drop}
+use lib.Seq.{sets-eq}
+use borrow.Author.Tests.{leb-true}
+use Rattle.refusal.specs.After.{overwrite}
+use Rattle.lines.specs.Printed.{mostNodes, listingRoom, printable, when, Printed}
+use Rattle.lines.specs.Steps.{Put}
+
+-- where the test fails there is no text
+pub not-printed : {test : Bool} {old : List ℕ} (text : List ℕ) → test ≡ false → Printed (when test text) old 0 old
+unfolding overwrite
+not-printed {old = old} text fails = subst (λ (b : Bool). Printed (when b text) old 0 old) (sym fails) (record { bytes = refl; buffer = refl })
+
+-- where it holds, the text that is stored
+pub printed : {test : Bool} {text old new : List ℕ} {answer : ℕ} → test ≡ true → length text ≤ length old → Put 0 text old answer new
+    → Printed (when test text) old answer new
+unfolding overwrite
+printed {text = text} {old = old} {new = new} {answer = answer} holds room put =
+    let within : 0 + length text ≤ length old = omega arith in
+    subst (λ (b : Bool). Printed (when b text) old answer new) (sym holds) (record {
+      bytes = put .place ∙ zero-add (length text);
+      buffer = put .buffer ∙ sets-eq text old 0 within ∙ ap (λ (k : ℕ). text ++ drop k old) (zero-add (length text));
+    })
+
+-- what is known where a listing is written
+pub record Able (n levels places tapes bytes : ℕ) : Type 0 where
+  pub nodes : n ≤ mostNodes
+  pub levels-enough : n ≤ levels
+  pub places-enough : n ≤ places
+  pub tapes-enough : 2 * n ≤ tapes
+  pub room : listingRoom n ≤ bytes
+
+both : (a b : Bool) → a && b ≡ true → (a ≡ true) × (b ≡ true)
+both true b h = (refl, h)
+both false b h = absurd (true≢false (sym h))
+
+pub able : (n levels places tapes bytes : ℕ) → printable n levels places tapes bytes ≡ true → Able n levels places tapes bytes
+able n levels places tapes bytes h =
+    let a = both (leb n mostNodes) _ h in
+    let b = both (leb n levels) _ (a .1) in
+    let c = both (leb n places) _ (b .1) in
+    let d = both (leb (2 * n) tapes) _ (c .1) in
+    record {
+      nodes = leb-true _ _ (a .0);
+      levels-enough = leb-true _ _ (b .0);
+      places-enough = leb-true _ _ (c .0);
+      tapes-enough = leb-true _ _ (d .0);
+      room = leb-true _ _ (d .1);
+    }

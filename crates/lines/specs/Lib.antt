@@ -1,0 +1,5 @@
+-- Numbers in decimal, the lines of a listing, what the two operations promise, and what their inner steps promise.
+pub mod Decimal
+pub mod Listing
+pub mod Printed
+pub mod Steps
