@@ -2,6 +2,8 @@
 // its last parameters.
 ghost use Rattle.tree.specs.Operations.{CheckTable, Mirror, Renumber};
 ghost use Rattle.sheet.specs.Read.{SheetRead};
+ghost use Rattle.rule.specs.Result.{Layout};
+ghost use Rattle.layout.specs.Operation.{slices, answer};
 
 #[no_mangle]
 pub extern "C" fn hiwenoka_check_table(table: &[u16], nodes: &mut u16) -> u16
@@ -10,6 +12,33 @@ pub extern "C" fn hiwenoka_check_table(table: &[u16], nodes: &mut u16) -> u16
     let checked = tree::check_table(table);
     *nodes = checked.nodes;
     checked.number
+}
+
+#[no_mangle]
+pub extern "C" fn hiwenoka_layout(
+    table: &[u16],
+    separation: u16,
+    places: &mut [i32],
+    levels: &mut [u16],
+    measured: &mut [u16],
+    work: &mut [i32],
+    nodes: &mut u16,
+    level_count: &mut u16,
+    least: &mut i32,
+    greatest: &mut i32,
+    pairs: &mut u16,
+) -> u16
+    ensures { λ r. ⌜ Layout (now (table .entry)) separation (slices (now (places .entry)) (now (levels .entry)) (now (measured .entry)) (now (work .entry))) (answer r (now (nodes .exit)) (now («level_count» .exit)) (now (least .exit)) (now (greatest .exit)) (now (pairs .exit))) (slices (now (places .exit)) (now (levels .exit)) (now (measured .exit)) (now (work .exit))) ⌝ }
+{
+    let drawn = layout::layout(table, separation, places, levels, measured, work);
+    *nodes = drawn.nodes;
+    *level_count = drawn.levels;
+    let leftmost = drawn.least;
+    *least = leftmost;
+    let rightmost = drawn.greatest;
+    *greatest = rightmost;
+    *pairs = drawn.pairs;
+    drawn.number
 }
 
 #[no_mangle]
