@@ -1,5 +1,5 @@
 /*
- * Copy sheets: tree tables and sheet files.
+ * Copy sheets: tree tables, their layout, and sheet files.
  *
  * A slice is a pointer and its count of entries. The pointer is aligned and not null even where
  * the count is 0, and no slice or result overlaps another.
@@ -16,7 +16,9 @@
  *    3  node 0 has a next sibling
  *    4  some node is named by more than one entry, or node 0 by any
  *    5  some node is not reached from node 0
+ *    6  the separation is not in 1 to 1024
  *    7  a slice that is to be written is too short
+ *    8  the working slice is too short
  *    9  the file's length is no multiple of 512, below 1024 or above 9216
  *   10  the words of a block do not add up to 0 modulo 65536
  *   11  a block's first word is not its place, counted from 0
@@ -36,6 +38,22 @@ extern "C" {
 
 /* Judges a table: 0 to 5. Writes n to nodes. */
 uint16_t hiwenoka_check_table(const uint16_t *table, size_t table_len, uint16_t *nodes);
+
+/*
+ * Lays a tree out: 0 to 5; 6; 7 if places or levels has fewer than n entries or record fewer than
+ * 2n; 8 if work has fewer than 16n. Writes each node's place to the first n entries of places and
+ * its level to the first n of levels, by node number, and the pairs of neighbours, left node first
+ * and in no fixed order, to the first 2 * pairs entries of record. The first 16n entries of work,
+ * whatever they held, are 0 afterwards. Writes n to nodes, the count of levels to level_count, the
+ * least and the greatest place to least and greatest, and the count of pairs to pairs.
+ */
+uint16_t hiwenoka_layout(const uint16_t *table, size_t table_len, uint16_t separation,
+                         int32_t *places, size_t places_len,
+                         uint16_t *levels, size_t levels_len,
+                         uint16_t *record, size_t record_len,
+                         int32_t *work, size_t work_len,
+                         uint16_t *nodes, uint16_t *level_count,
+                         int32_t *least, int32_t *greatest, uint16_t *pairs);
 
 /*
  * Reverses the children of every node, numbers kept: 0 to 5, or 7 if out has fewer than 2n
