@@ -7,6 +7,24 @@
 mod raw {
     extern "C" {
         pub fn hiwenoka_check_table(table: *const u16, table_len: usize, nodes: *mut u16) -> u16;
+        pub fn hiwenoka_layout(
+            table: *const u16,
+            table_len: usize,
+            separation: u16,
+            places: *mut i32,
+            places_len: usize,
+            levels: *mut u16,
+            levels_len: usize,
+            record: *mut u16,
+            record_len: usize,
+            work: *mut i32,
+            work_len: usize,
+            nodes: *mut u16,
+            level_count: *mut u16,
+            least: *mut i32,
+            greatest: *mut i32,
+            pairs: *mut u16,
+        ) -> u16;
         pub fn hiwenoka_mirror(
             table: *const u16,
             table_len: usize,
@@ -38,6 +56,49 @@ mod raw {
 pub fn check_table(table: &[u16], nodes: &mut u16) -> u16 {
     // SAFETY: the pointers come from references of the stated lengths, valid for the call.
     unsafe { raw::hiwenoka_check_table(table.as_ptr(), table.len(), nodes) }
+}
+
+/// The slices that a layout writes.
+pub struct Slices<'a> {
+    pub places: &'a mut [i32],
+    pub levels: &'a mut [u16],
+    pub record: &'a mut [u16],
+    pub work: &'a mut [i32],
+}
+
+/// What a layout reports besides its number.
+#[derive(Clone, Copy, Debug, Default, PartialEq, Eq)]
+pub struct Fields {
+    pub nodes: u16,
+    pub level_count: u16,
+    pub least: i32,
+    pub greatest: i32,
+    pub pairs: u16,
+}
+
+#[inline]
+pub fn layout(table: &[u16], separation: u16, lent: &mut Slices, fields: &mut Fields) -> u16 {
+    // SAFETY: as in `check_table`; neither slices nor fields overlap.
+    unsafe {
+        raw::hiwenoka_layout(
+            table.as_ptr(),
+            table.len(),
+            separation,
+            lent.places.as_mut_ptr(),
+            lent.places.len(),
+            lent.levels.as_mut_ptr(),
+            lent.levels.len(),
+            lent.record.as_mut_ptr(),
+            lent.record.len(),
+            lent.work.as_mut_ptr(),
+            lent.work.len(),
+            &mut fields.nodes,
+            &mut fields.level_count,
+            &mut fields.least,
+            &mut fields.greatest,
+            &mut fields.pairs,
+        )
+    }
 }
 
 #[inline]
