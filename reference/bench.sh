@@ -1,8 +1,9 @@
 #!/usr/bin/env bash
-# Counts instructions by callgrind: a node for the table operations and for the published pointer
-# method (the layout's baseline), a byte for the sheet reader. Only the calls themselves count.
+# Counts instructions by callgrind: a node for the table operations, for the layout and for the
+# published pointer method (its baseline, which does not check the table), a byte for the sheet
+# reader. Only the calls themselves count.
 #
-# Usage: bench.sh [table] [sheet] [pointer]; all three if none is named.
+# Usage: bench.sh [table] [sheet] [layout]; all three if none is named.
 set -euo pipefail
 cd "$(dirname "$0")"
 
@@ -74,7 +75,7 @@ build() {
 }
 
 if [ $# -eq 0 ]; then
-    set -- table sheet pointer
+    set -- table sheet layout
 fi
 for part in "$@"; do
     case "$part" in
@@ -91,8 +92,13 @@ for part in "$@"; do
         measure bench_sheet hiwenoka_read_sheet |
             report "Sheet reader: instructions a byte, by count of blocks"
         ;;
-    pointer)
+    layout)
+        build bench_layout
         build bench_pointer
+        {
+            measure bench_layout hiwenoka_layout layout
+            measure bench_layout hiwenoka_check_table check
+        } | report "Layout, and the table check in it: instructions a node, by count of nodes"
         {
             measure bench_pointer pointer_places places
             measure bench_pointer pointer_record record

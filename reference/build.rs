@@ -21,4 +21,5 @@ fn main() {
     println!("cargo:rustc-link-arg-tests={archive}");
     println!("cargo:rustc-link-arg-bin=bench_table={archive}");
     println!("cargo:rustc-link-arg-bin=bench_sheet={archive}");
+    println!("cargo:rustc-link-arg-bin=bench_layout={archive}");
 }
