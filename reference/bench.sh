@@ -1,9 +1,10 @@
 #!/usr/bin/env bash
 # Counts instructions by callgrind: a node for the table operations, for the layout and for the
 # published pointer method (its baseline, which does not check the table), a byte for the sheet
-# reader. Only the calls themselves count.
+# reader. Only the calls themselves count. The part `time` takes the time of a layout beside the
+# pointer method's and, where Debian's node-d3-hierarchy is installed, that of d3's tree.
 #
-# Usage: bench.sh [table] [sheet] [layout]; all three if none is named.
+# Usage: bench.sh [table] [sheet] [layout] [time]; all four if none is named.
 set -euo pipefail
 cd "$(dirname "$0")"
 
@@ -75,7 +76,7 @@ build() {
 }
 
 if [ $# -eq 0 ]; then
-    set -- table sheet layout
+    set -- table sheet layout time
 fi
 for part in "$@"; do
     case "$part" in
@@ -103,6 +104,26 @@ for part in "$@"; do
             measure bench_pointer pointer_places places
             measure bench_pointer pointer_record record
         } | report "Published pointer method: instructions a node, by count of nodes"
+        ;;
+    time)
+        build time_layout
+        "$programs/time_layout" run >"$counts/ours"
+        echo "shape d3" >"$counts/d3"
+        export NODE_PATH="${NODE_PATH:-/usr/share/nodejs}"
+        if node -e 'require("d3-hierarchy")' 2>/dev/null; then
+            "$programs/time_layout" trees | node d3.js >>"$counts/d3"
+        else
+            echo "d3: Debian's node-d3-hierarchy is not installed"
+        fi
+        echo "Layout of 1,024 nodes: nanoseconds, and how many times as long the others take; of d3, the tree"
+        echo "alone, and with its hierarchy, which is built from the nodes as a layout builds on a table"
+        printf "%-12s %9s %9s %7s %9s %7s %9s %7s\n" "" layout pointer times d3 times whole times
+        awk 'FNR == NR { tree[$1] = $2; whole[$1] = $3; next }
+            {
+                printf "%-12s %9d %9d %7.2f", $1, $2, $3, $3 / $2
+                if ($1 in tree) printf " %9d %7.1f %9d %7.1f", tree[$1], tree[$1] / $2, whole[$1], whole[$1] / $2
+                print ""
+            }' "$counts/d3" "$counts/ours"
         ;;
     *)
         echo "bench.sh: no part named $part" >&2
