@@ -395,6 +395,17 @@ pub fn damaged(table: &[u16], count: usize, random: &mut Random) -> Vec<u16> {
     damaged
 }
 
+/// One tree of each shape and of both families of document 004, of at most so many nodes, by name.
+pub fn trees_of_each_shape(nodes: usize, random: &mut Random) -> Vec<(&'static str, Vec<u16>)> {
+    let mut trees: Vec<_> = SHAPES
+        .iter()
+        .map(|shape| (shape.name, (shape.make)(nodes, random)))
+        .collect();
+    trees.push(("contours", largest(contour_family, nodes)));
+    trees.push(("shares", largest(share_family, nodes)));
+    trees
+}
+
 #[cfg(test)]
 mod tests {
     use super::*;

@@ -7,7 +7,7 @@
 
 use reference::ffi::{self, Fields, Slices};
 use reference::random::Random;
-use reference::shapes::{self, SHAPES};
+use reference::shapes;
 use std::env;
 use std::hint::black_box;
 
@@ -29,13 +29,7 @@ fn main() {
         work: &mut work,
     };
     for size in SIZES {
-        let mut cases: Vec<(&str, Vec<u16>)> = SHAPES
-            .iter()
-            .map(|shape| (shape.name, (shape.make)(size, &mut random)))
-            .collect();
-        cases.push(("contours", shapes::largest(shapes::contour_family, size)));
-        cases.push(("shares", shapes::largest(shapes::share_family, size)));
-        for (shape, table) in cases {
+        for (shape, table) in shapes::trees_of_each_shape(size, &mut random) {
             if mode == "cases" {
                 println!("{operation} {shape} {size} {}", table.len() / 2);
             } else {

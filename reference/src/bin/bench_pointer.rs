@@ -7,7 +7,7 @@
 
 use reference::pointer::{Extent, Pointers};
 use reference::random::Random;
-use reference::shapes::{self, SHAPES};
+use reference::shapes;
 use std::env;
 use std::hint::black_box;
 
@@ -65,13 +65,7 @@ fn main() {
         record: vec![0; 2_048],
     };
     for size in SIZES {
-        let mut cases: Vec<(&str, Vec<u16>)> = SHAPES
-            .iter()
-            .map(|shape| (shape.name, (shape.make)(size, &mut random)))
-            .collect();
-        cases.push(("contours", shapes::largest(shapes::contour_family, size)));
-        cases.push(("shares", shapes::largest(shapes::share_family, size)));
-        for (shape, table) in cases {
+        for (shape, table) in shapes::trees_of_each_shape(size, &mut random) {
             if mode == "cases" {
                 println!("{operation} {shape} {size} {}", table.len() / 2);
             } else {

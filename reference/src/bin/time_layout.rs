@@ -8,7 +8,7 @@
 use reference::ffi::{self, Fields, Slices};
 use reference::pointer::Pointers;
 use reference::random::Random;
-use reference::shapes::{self, SHAPES};
+use reference::shapes;
 use std::env;
 use std::hint::black_box;
 use std::time::Instant;
@@ -78,13 +78,7 @@ fn times(table: &[u16]) -> (f64, f64) {
 fn main() {
     let mode = env::args().nth(1).unwrap_or_default();
     let mut random = Random::new(1);
-    let mut trees: Vec<(&str, Vec<u16>)> = SHAPES
-        .iter()
-        .map(|shape| (shape.name, (shape.make)(NODES, &mut random)))
-        .collect();
-    trees.push(("contours", shapes::largest(shapes::contour_family, NODES)));
-    trees.push(("shares", shapes::largest(shapes::share_family, NODES)));
-    for (shape, table) in trees {
+    for (shape, table) in shapes::trees_of_each_shape(NODES, &mut random) {
         match mode.as_str() {
             "trees" => {
                 let names: Vec<String> = parents(&table)[1..].iter().map(u16::to_string).collect();
