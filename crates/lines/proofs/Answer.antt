@@ -6,7 +6,7 @@ use native.Mathlib.Omega.{arith}
 use mathlib.Core.Bool.{Bool, true, false, _&&_, true≢false}
 use mathlib.Core.List.{List, _++_}
 use lib.Dec.{leb}
-use lib.ListN.{length, drop}
+use lib.ListN.{length, drop, length-append}
 use lib.Seq.{sets-eq}
 use borrow.Author.Tests.{leb-true}
 use Rattle.refusal.specs.After.{overwrite}
@@ -37,7 +37,8 @@ pub record Able (n levels places tapes bytes : ℕ) : Type 0 where
   pub tapes-enough : 2 * n ≤ tapes
   pub room : listingRoom n ≤ bytes
 
-both : (a b : Bool) → a && b ≡ true → (a ≡ true) × (b ≡ true)
+-- two tests that hold
+pub both : (a b : Bool) → a && b ≡ true → (a ≡ true) × (b ≡ true)
 both true b h = (refl, h)
 both false b h = absurd (true≢false (sym h))
 
@@ -54,3 +55,8 @@ able n levels places tapes bytes h =
       tapes-enough = leb-true _ _ (d .0);
       room = leb-true _ _ (d .1);
     }
+
+-- a text that is printed lies within the buffer
+pub printed-within : {text old new : List ℕ} {answer : ℕ} → Printed text old answer new → answer ≤ length new
+unfolding overwrite
+printed-within {text} {old} p = omega (arith, p .bytes, ap length (p .buffer), length-append text (drop (length text) old))

@@ -2,7 +2,7 @@
 use Prim.Native.Nat.{ℕ, _+_, _*_, _%_}
 use mathlib.Core.Path.{_≡_}
 use mathlib.Core.Bool.{Bool, not, _&&_, _||_}
-use mathlib.Core.List.{List, [], _∷_}
+use mathlib.Core.List.{List, [], _∷_, _++_}
 use lib.Dec.{eqb, ltb, leb}
 use lib.ListN.{length}
 use Rattle.refusal.specs.First.{Condition, _⇐_, first}
@@ -71,15 +71,17 @@ layoutWrong file =
 abbrev pub roomWrong : ℕ → ℕ → ℕ → Bool
 roomWrong n tableLength tapesLength = ltb tableLength (2 * n) || ltb tapesLength (2 * n)
 
--- the conditions in their order
+-- the conditions of the file in their order
+abbrev pub fileConditions : List ℕ → List Condition
+fileConditions file = 9 ⇐ lengthWrong (length file) ∷ 10 ⇐ checkWrong file ∷ 11 ⇐ placeWrong file ∷ 12 ⇐ layoutWrong file ∷ []
+
+-- and after them that of the slices
 abbrev pub conditions : List ℕ → ℕ → ℕ → List Condition
-conditions file tableLength tapesLength =
-    9 ⇐ lengthWrong (length file)
-    ∷ 10 ⇐ checkWrong file
-    ∷ 11 ⇐ placeWrong file
-    ∷ 12 ⇐ layoutWrong file
-    ∷ 7 ⇐ roomWrong (nodesOf file) tableLength tapesLength
-    ∷ []
+conditions file tableLength tapesLength = fileConditions file ++ (7 ⇐ roomWrong (nodesOf file) tableLength tapesLength ∷ [])
+
+-- the number of a file: 0 where it can be read
+unfoldable pub fileNumber : List ℕ → ℕ
+fileNumber file = first (fileConditions file)
 
 -- the number that reading gives, from the file and the slices' lengths
 unfoldable pub refusal : List ℕ → ℕ → ℕ → ℕ

@@ -1,0 +1,3 @@
+-- The numbers that can occur, and what a slice holds that an accepted operation wrote.
+pub mod Numbers
+pub mod Listed

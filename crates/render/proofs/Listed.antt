@@ -1,0 +1,209 @@
+-- What is printed for a table, from what the layout and the text's writer promise. Assumes nothing.
+use mathlib.Core.Path.{_≡_, refl, sym, ap, ap₂, _∙_, subst}
+use mathlib.Core.Bool.{Bool, true, _&&_}
+use mathlib.Core.List.{List}
+use Prim.Native.Nat.{ℕ, _*_, _^_, _≤_, _<_}
+use native.Mathlib.Omega.{arith}
+use lib.Dec.{leb}
+use lib.IntN.{ℤ, pos}
+use lib.Signed.{mag}
+use mir.Syntax.{w32}
+use mir.Val.{toZ, ofZ}
+use lib.ListN.{length, take, length-map}
+use lib.Seq.{length-take-le}
+use borrow.Author.Tests.{le-leb}
+use Rattle.refusal.specs.After.{granted, after}
+use Rattle.tree.specs.Numbers.{upTo}
+use Rattle.tree.specs.Table.{nodes}
+use Rattle.tree.specs.Levels.{level, levelCount}
+use Rattle.tree.specs.WellFormed.{tableNumber}
+use Rattle.tree.proofs.Stands.{accepted-length}
+use Rattle.rule.specs.Result.{Slices, Answer, Layout, layoutNumber, place, placesOf, levelsOf, leastOf, greatestOf}
+use Rattle.layout.proofs.Carried.{carried}
+use Rattle.layout.proofs.Extreme.{least-small, greatest-small}
+use Rattle.layout.proofs.Settling.{length-upTo}
+use Rattle.sheet.specs.Below.{joined}
+use Rattle.sheet.specs.declared.Sheet.{Sheet}
+use Rattle.sheet.specs.Read.{nodesOf, separationOf, nodePair, tableOf, tapesOf, fileNumber, refusal, SheetRead}
+use Rattle.sheet.proofs.Below.{length-joined}
+use Rattle.lines.specs.Listing.{listing, refusedLine}
+use Rattle.lines.specs.Printed.{mostNodes, refusalRoom, listingRoom, printable, when, Printed, ListingPrinted, RefusalPrinted}
+use Rattle.render.specs.Text.{textRoom, drawnListing, tableText, sheetText}
+use Rattle.render.proofs.Numbers.{most-nodes, table-decides, readable, file-decides, written, text-refused, text-granted}
+
+-- a text that is printed where a test holds
+shown : {test : Bool} {text wanted old new : List ℕ} {answer : ℕ} → test ≡ true → text ≡ wanted → Printed (when test text) old answer new
+    → Printed wanted old answer new
+shown {test} {text} {wanted} {old} {new} {answer} holds e p =
+    subst (λ (x : List ℕ). Printed x old answer new) (ap (λ (b : Bool). when b text) holds ∙ e) p
+
+-- the line of a refusal, where the text is one
+pub refusal-shown : (k : ℕ) {wanted old new : List ℕ} {answer : ℕ} → textRoom ≤ length old → refusedLine k ≡ wanted → RefusalPrinted k old answer new
+    → Printed wanted old answer new
+refusal-shown k {old = old} room e p = shown (le-leb refusalRoom (length old) (omega (arith, room))) e p
+
+length-places : (D : ℕ) (t : List ℕ) → length (placesOf D t) ≡ nodes t
+unfolding placesOf
+length-places D t = length-map (upTo (nodes t)) (place D t) ∙ length-upTo (nodes t)
+
+length-levels : (t : List ℕ) → length (levelsOf t) ≡ nodes t
+unfolding levelsOf
+length-levels t = length-map (upTo (nodes t)) (level t) ∙ length-upTo (nodes t)
+
+-- slices as long as 1,024 nodes need
+pub record Ample (s : Slices) : Type 0 where
+  pub places : 1024 ≤ length (s .places)
+  pub levels : 1024 ≤ length (s .levels)
+  pub measured : 2048 ≤ length (s .theRecord)
+  pub work : 16384 ≤ length (s .work)
+
+module _ (t : List ℕ) (D : ℕ) (some : 1 ≤ D) (small : D ≤ 1024) (tapes : List ℕ) (s u : Slices) (a : Answer) (L : Layout t D s a u) (ample : Ample s) where
+  decides : layoutNumber t D s ≡ tableNumber t
+  decides = table-decides t D s some small (ample .places) (ample .levels) (ample .measured) (ample .work)
+
+  pub number-decided : a .number ≡ tableNumber t
+  number-decided = L .number ∙ decides
+
+  -- a refusal
+  pub refused-listed : {old new : List ℕ} {k : ℕ} → textRoom ≤ length old → (a .number ≡ 0 → ⊥) → RefusalPrinted (a .number) old k new
+      → Printed (tableText D t tapes) old k new
+  unfolding tableText
+  refused-listed room h p =
+      refusal-shown (a .number) room (ap refusedLine number-decided ∙ sym (text-refused (tableNumber t) (drawnListing D t tapes) (λ e. h (number-decided ∙ e)))) p
+
+  -- an acceptance
+  module _ (e : a .number ≡ 0) where
+    accepted : layoutNumber t D s ≡ 0
+    accepted = sym (L .number) ∙ e
+
+    well-formed : tableNumber t ≡ 0
+    well-formed = sym number-decided ∙ e
+
+    given : {A : Type 0} {x : A} (y z : A) → x ≡ granted (layoutNumber t D s) y z → x ≡ y
+    given y z h = h ∙ ap (λ (k : ℕ). granted k y z) accepted
+
+    nodes-given : a .nodes ≡ nodes t
+    nodes-given = given (nodes t) 0 (L .nodes)
+
+    pub few : a .nodes ≤ 1024
+    few = subst (λ (n : ℕ). n ≤ 1024) (sym nodes-given) (most-nodes t well-formed)
+
+    levels-listed : take (a .nodes) (u .levels) ≡ levelsOf t
+    levels-listed =
+        ap (λ (l : List ℕ). take (a .nodes) l) (L .levels)
+        ∙ written (layoutNumber t D s) (a .nodes) (levelsOf t) (s .levels) accepted (length-levels t ∙ sym nodes-given)
+
+    places-listed : take (a .nodes) (u .places) ≡ placesOf D t
+    places-listed =
+        ap (λ (l : List ℤ). take (a .nodes) l) (L .places)
+        ∙ written (layoutNumber t D s) (a .nodes) (placesOf D t) (s .places) accepted (length-places D t ∙ sym nodes-given)
+
+    same-listing : listing (a .nodes) (a .levels) D (a .least) (a .greatest) (take (a .nodes) (u .levels)) (take (a .nodes) (u .places)) tapes ≡ tableText D t tapes
+    unfolding tableText drawnListing
+    same-listing =
+        rw (
+          levels-listed,
+          places-listed,
+          nodes-given,
+          given (levelCount t) 0 (L .levelCount),
+          given (leastOf (placesOf D t)) (pos 0) (L .least),
+          given (greatestOf (placesOf D t)) (pos 0) (L .greatest),
+        )
+        (sym (text-granted (tableNumber t) (drawnListing D t tapes) well-formed))
+
+    -- the writer's test holds
+    can-print : {bytes : ℕ} → textRoom ≤ bytes → length t ≤ length tapes
+        → printable (a .nodes) (length (take (a .nodes) (u .levels))) (length (take (a .nodes) (u .places))) (length tapes) bytes ≡ true
+    can-print {bytes} room tapes-enough =
+        let n = a .nodes in
+        let levels-enough : n ≤ length (take n (u .levels)) = omega (arith, nodes-given, ap length levels-listed, length-levels t) in
+        let places-enough : n ≤ length (take n (u .places)) = omega (arith, nodes-given, ap length places-listed, length-places D t) in
+        let tapes-long : 2 * n ≤ length tapes = omega (arith, nodes-given, tapes-enough, accepted-length t well-formed) in
+        let bytes-enough : listingRoom n ≤ bytes = omega (arith, room, few) in
+        simp (le-leb n mostNodes few, le-leb n _ levels-enough, le-leb n _ places-enough, le-leb (2 * n) _ tapes-long, le-leb (listingRoom n) bytes bytes-enough)
+
+    -- the extremes are handed on in a register's 32 bits
+    least-kept : toZ w32 (ofZ w32 (a .least)) ≡ a .least
+    least-kept =
+        carried (a .least)
+        (subst (λ (x : ℤ). mag x < 2 ^ 31) (sym (given (leastOf (placesOf D t)) (pos 0) (L .least))) (least-small D t well-formed small))
+
+    greatest-kept : toZ w32 (ofZ w32 (a .greatest)) ≡ a .greatest
+    greatest-kept =
+        carried (a .greatest)
+        (subst (λ (x : ℤ). mag x < 2 ^ 31) (sym (given (greatestOf (placesOf D t)) (pos 0) (L .greatest))) (greatest-small D t well-formed small))
+
+    pub accepted-listed : {old new : List ℕ} {k : ℕ} → textRoom ≤ length old → length t ≤ length tapes
+        → ListingPrinted (a .nodes) (a .levels) D (toZ w32 (ofZ w32 (a .least))) (toZ w32 (ofZ w32 (a .greatest))) (take (a .nodes) (u .levels))
+        (take (a .nodes) (u .places)) tapes old k new
+        → Printed (tableText D t tapes) old k new
+    accepted-listed room tapes-enough p =
+        shown (can-print room tapes-enough)
+        (ap₂ (λ (x y : ℤ). listing (a .nodes) (a .levels) D x y (take (a .nodes) (u .levels)) (take (a .nodes) (u .places)) tapes) least-kept greatest-kept
+        ∙ same-listing) p
+
+-- ---- the file
+
+-- a text that is printed where there is room for it
+pub with-room : {text old new : List ℕ} {answer : ℕ} → textRoom ≤ length old → Printed text old answer new
+    → Printed (when (leb textRoom (length old)) text) old answer new
+with-room {text} {old} {new} {answer} room p = subst (λ (b : Bool). Printed (when b text) old answer new) (sym (le-leb textRoom (length old) room)) p
+
+module _ (file table tapes table′ tapes′ : List ℕ) (r : Sheet) (table-long : 2048 ≤ length table) (tapes-long : 2048 ≤ length tapes)
+    (S : SheetRead file table tapes r table′ tapes′) where
+  reads : refusal file (length table) (length tapes) ≡ fileNumber file
+  reads = file-decides file (length table) (length tapes) table-long tapes-long
+
+  -- a refusal
+  pub refused-sheet : {old new : List ℕ} {k : ℕ} → textRoom ≤ length old → (r .number ≡ 0 → ⊥) → RefusalPrinted (r .number) old k new
+      → Printed (sheetText file) old k new
+  unfolding sheetText
+  refused-sheet room h p =
+      let number : r .number ≡ fileNumber file = S .number ∙ reads in
+      refusal-shown (r .number) room (ap refusedLine number ∙ sym (text-refused (fileNumber file) _ (λ e. h (number ∙ e)))) p
+
+  -- an acceptance
+  module _ (e : r .number ≡ 0) where
+    taken : refusal file (length table) (length tapes) ≡ 0
+    taken = sym (S .number) ∙ e
+
+    file-sound : fileNumber file ≡ 0
+    file-sound = sym reads ∙ taken
+
+    nodes-read : r .nodes ≡ nodesOf file
+    nodes-read = S .nodes ∙ ap (λ (k : ℕ). granted k (nodesOf file) 0) taken
+
+    separation-read : r .separation ≡ separationOf file
+    separation-read = S .separation ∙ ap (λ (k : ℕ). granted k (separationOf file) 0) taken
+
+    pub nodes-few : r .nodes ≤ 1024
+    nodes-few = subst (λ (n : ℕ). n ≤ 1024) (sym nodes-read) (readable file file-sound .nodes-most)
+
+    pub separation-some : 1 ≤ r .separation
+    separation-some = subst (λ (d : ℕ). 1 ≤ d) (sym separation-read) (readable file file-sound .separation-some)
+
+    pub separation-small : r .separation ≤ 1024
+    separation-small = subst (λ (d : ℕ). d ≤ 1024) (sym separation-read) (readable file file-sound .separation-most)
+
+    pair-length : (j n : ℕ) → length (joined n (nodePair file j)) ≡ 2 * n
+    pair-length j n = length-joined 2 (nodePair file j) (λ k. refl) n
+
+    table-read : take (2 * r .nodes) table′ ≡ tableOf file (nodesOf file)
+    table-read =
+        ap (λ (l : List ℕ). take (2 * r .nodes) l) (S .table-after)
+        ∙ written (refusal file (length table) (length tapes)) (2 * r .nodes) (tableOf file (nodesOf file)) table taken
+        (pair-length 0 (nodesOf file) ∙ ap (λ (n : ℕ). 2 * n) (sym nodes-read))
+
+    tapes-read : take (2 * r .nodes) tapes′ ≡ tapesOf file (nodesOf file)
+    tapes-read =
+        ap (λ (l : List ℕ). take (2 * r .nodes) l) (S .tapes-after)
+        ∙ written (refusal file (length table) (length tapes)) (2 * r .nodes) (tapesOf file (nodesOf file)) tapes taken
+        (pair-length 2 (nodesOf file) ∙ ap (λ (n : ℕ). 2 * n) (sym nodes-read))
+
+    same-text : tableText (r .separation) (take (2 * r .nodes) table′) (take (2 * r .nodes) tapes′) ≡ sheetText file
+    unfolding sheetText
+    same-text = rw (table-read, tapes-read, separation-read) (sym (text-granted (fileNumber file) _ file-sound))
+
+    pub sheet-listed : {old new : List ℕ} {k : ℕ} → Printed (tableText (r .separation) (take (2 * r .nodes) table′) (take (2 * r .nodes) tapes′)) old k new
+        → Printed (sheetText file) old k new
+    sheet-listed {old} {new} {k} p = subst (λ (x : List ℕ). Printed x old k new) same-text p

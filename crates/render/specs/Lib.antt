@@ -1,0 +1,2 @@
+-- What is printed for a file, and what the operation promises.
+pub mod Text

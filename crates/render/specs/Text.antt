@@ -1,0 +1,42 @@
+-- The text that is printed for the bytes of a file: the sheet is read, its table laid out, and the listing written; a refusal is one
+-- line. 6, 7 and 8 never occur: a file that can be read has a separation in range, and the slices are long enough.
+use Prim.Native.Nat.{ℕ}
+use mathlib.Core.List.{List}
+use lib.Dec.{leb}
+use lib.ListN.{length}
+use Rattle.refusal.specs.After.{granted}
+use Rattle.tree.specs.Table.{nodes}
+use Rattle.tree.specs.Levels.{levelCount}
+use Rattle.tree.specs.WellFormed.{tableNumber}
+use Rattle.rule.specs.Result.{placesOf, levelsOf, leastOf, greatestOf}
+use Rattle.sheet.specs.Read.{nodesOf, separationOf, tableOf, tapesOf, fileNumber}
+use Rattle.lines.specs.Listing.{listing, refusedLine}
+use Rattle.lines.specs.Printed.{mostNodes, listingRoom, when, Printed}
+
+-- a text, or the line of a refusal where the number is one
+abbrev pub unlessRefused : ℕ → List ℕ → List ℕ
+unlessRefused number text = granted number text (refusedLine number)
+
+-- the listing of a table where its layout puts the nodes
+unfoldable pub drawnListing : ℕ → List ℕ → List ℕ → List ℕ
+drawnListing separation table tapes =
+    listing (nodes table) (levelCount table) separation (leastOf (placesOf separation table)) (greatestOf (placesOf separation table))
+    (levelsOf table) (placesOf separation table) tapes
+
+-- what is printed for a table: 1 to 5, or its listing
+unfoldable pub tableText : ℕ → List ℕ → List ℕ → List ℕ
+tableText separation table tapes = unlessRefused (tableNumber table) (drawnListing separation table tapes)
+
+-- what is printed for a file: 9 to 12, or the text of its table
+unfoldable pub sheetText : List ℕ → List ℕ
+sheetText file =
+    unlessRefused (fileNumber file)
+    (tableText (separationOf file) (tableOf file (nodesOf file)) (tapesOf file (nodesOf file)))
+
+-- the bytes that the text of any file fits
+abbrev pub textRoom : ℕ
+textRoom = listingRoom mostNodes
+
+-- what `list_sheet` promises
+abbrev pub SheetListed : List ℕ → List ℕ → ℕ → List ℕ → Type 0
+SheetListed file old = Printed (when (leb textRoom (length old)) (sheetText file)) old
