@@ -82,6 +82,18 @@ uint16_t hiwenoka_read_sheet(const uint8_t *file, size_t file_len,
                              uint16_t *tapes, size_t tapes_len,
                              uint16_t *nodes, uint16_t *separation);
 
+/* The bytes of out with which hiwenoka_list_sheet can print any sheet. */
+#define HIWENOKA_TEXT_ROOM 41024
+
+/*
+ * Reads a sheet file, lays its tree out and writes the text of the listing to out: the line
+ * "sheet", n, the count of levels, D, the least and the greatest place; then for each node a line
+ * with its number, level, place and tape number. A refusal is only the line "refused" and its
+ * number: the first of 9 to 12, and then of 1 to 5. Returns the number of bytes written. Where
+ * out has fewer than HIWENOKA_TEXT_ROOM bytes, writes nothing and returns 0.
+ */
+size_t hiwenoka_list_sheet(const uint8_t *file, size_t file_len, uint8_t *out, size_t out_len);
+
 #ifdef __cplusplus
 }
 #endif

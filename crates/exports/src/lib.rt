@@ -1,9 +1,10 @@
 // The C interface. Each function is the operation of its name: it returns the number, and stores the other result fields through
-// its last parameters.
+// its last parameters. `hiwenoka_list_sheet` alone has no number: it writes what is printed, and returns the number of bytes.
 ghost use Rattle.tree.specs.Operations.{CheckTable, Mirror, Renumber};
 ghost use Rattle.sheet.specs.Read.{SheetRead};
 ghost use Rattle.rule.specs.Result.{Layout};
 ghost use Rattle.layout.specs.Operation.{slices, answer};
+ghost use Rattle.render.specs.Text.{SheetListed};
 
 #[no_mangle]
 pub extern "C" fn hiwenoka_check_table(table: &[u16], nodes: &mut u16) -> u16
@@ -69,4 +70,11 @@ pub extern "C" fn hiwenoka_read_sheet(
     *nodes = sheet.nodes;
     *separation = sheet.separation;
     sheet.number
+}
+
+#[no_mangle]
+pub extern "C" fn hiwenoka_list_sheet(file: &[u8], out: &mut [u8]) -> usize
+    ensures { λ r. ⌜ SheetListed (now (file .entry)) (now (out .entry)) r (now (out .exit)) ⌝ }
+{
+    render::list_sheet(file, out)
 }

@@ -1,3 +1,4 @@
 -- The numbers that can occur, and what a slice holds that an accepted operation wrote.
 pub mod Numbers
 pub mod Listed
+pub mod Example

@@ -1,30 +1,33 @@
 -- What is printed for a table, from what the layout and the text's writer promise. Assumes nothing.
 use mathlib.Core.Path.{_≡_, refl, sym, ap, ap₂, _∙_, subst}
-use mathlib.Core.Bool.{Bool, true, _&&_}
+use mathlib.Core.Bool.{Bool, true, not}
+use mathlib.Core.Logic.{inr}
 use mathlib.Core.List.{List}
-use Prim.Native.Nat.{ℕ, _*_, _^_, _≤_, _<_}
+use Prim.Native.Nat.{ℕ, _*_, _%_, _^_, _≤_, _<_}
 use native.Mathlib.Omega.{arith}
-use lib.Dec.{leb}
+use lib.Dec.{eqb, ltb, leb}
 use lib.IntN.{ℤ, pos}
 use lib.Signed.{mag}
 use mir.Syntax.{w32}
 use mir.Val.{toZ, ofZ}
 use lib.ListN.{length, take, length-map}
-use lib.Seq.{length-take-le}
-use borrow.Author.Tests.{le-leb}
-use Rattle.refusal.specs.After.{granted, after}
+use borrow.Author.Tests.{le-leb, lt-ltb}
+use Rattle.refusal.specs.After.{granted}
 use Rattle.tree.specs.Numbers.{upTo}
 use Rattle.tree.specs.Table.{nodes}
 use Rattle.tree.specs.Levels.{level, levelCount}
 use Rattle.tree.specs.WellFormed.{tableNumber}
+use Rattle.tree.proofs.Tests.{or-true}
 use Rattle.tree.proofs.Stands.{accepted-length}
 use Rattle.rule.specs.Result.{Slices, Answer, Layout, layoutNumber, place, placesOf, levelsOf, leastOf, greatestOf}
 use Rattle.layout.proofs.Carried.{carried}
 use Rattle.layout.proofs.Extreme.{least-small, greatest-small}
 use Rattle.layout.proofs.Settling.{length-upTo}
 use Rattle.sheet.specs.Below.{joined}
+use Rattle.sheet.specs.Block.{blockBytes}
+use Rattle.sheet.specs.Layout.{blocksFor}
 use Rattle.sheet.specs.declared.Sheet.{Sheet}
-use Rattle.sheet.specs.Read.{nodesOf, separationOf, nodePair, tableOf, tapesOf, fileNumber, refusal, SheetRead}
+use Rattle.sheet.specs.Read.{nodesOf, separationOf, nodePair, tableOf, tapesOf, lengthWrong, fileNumber, refusal, SheetRead}
 use Rattle.sheet.proofs.Below.{length-joined}
 use Rattle.lines.specs.Listing.{listing, refusedLine}
 use Rattle.lines.specs.Printed.{mostNodes, refusalRoom, listingRoom, printable, when, Printed, ListingPrinted, RefusalPrinted}
@@ -207,3 +210,11 @@ module _ (file table tapes table′ tapes′ : List ℕ) (r : Sheet) (table-long
     pub sheet-listed : {old new : List ℕ} {k : ℕ} → Printed (tableText (r .separation) (take (2 * r .nodes) table′) (take (2 * r .nodes) tapes′)) old k new
         → Printed (sheetText file) old k new
     sheet-listed {old} {new} {k} p = subst (λ (x : List ℕ). Printed x old k new) same-text p
+
+-- a file that is longer than the largest sheet's is refused with 9
+pub too-long : (file : List ℕ) → blockBytes * blocksFor mostNodes < length file → sheetText file ≡ refusedLine 9
+unfolding sheetText fileNumber
+too-long file h =
+    let long : lengthWrong (length file) ≡ true =
+    or-true {a = not (eqb (length file % blockBytes) 0)} (inr (or-true {a = ltb (length file) (blockBytes * 2)} (inr (lt-ltb (blockBytes * blocksFor mostNodes) (length file) h)))) in
+    simp long

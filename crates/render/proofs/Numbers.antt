@@ -1,16 +1,16 @@
 -- Which numbers can occur: with slices that are long enough the layout of a table has the table's number, and the reading of a file the
 -- file's. Assumes nothing.
-use mathlib.Core.Path.{_≡_, refl, sym, ap, _∙_, subst}
-use mathlib.Core.Bool.{Bool, true, false, not, cond, _||_, _&&_}
+use mathlib.Core.Path.{_≡_, refl, sym, ap, _∙_}
+use mathlib.Core.Bool.{Bool, false, not, cond}
 use mathlib.Core.List.{List, [], _∷_, _++_}
 use Prim.Native.Nat.{ℕ, zero, suc, _*_, _≤_}
 use native.Mathlib.Omega.{arith}
-use lib.Dec.{eqb, leb, ltb}
+use lib.Dec.{leb}
 use lib.ListN.{length, take, drop}
 use lib.Seq.{take-append-seam}
 use borrow.Author.Tests.{leb-true, le-ltb, not-false}
 use Rattle.refusal.specs.First.{Condition, _⇐_, first}
-use Rattle.refusal.specs.After.{granted, overwrite, after}
+use Rattle.refusal.specs.After.{overwrite, after}
 use Rattle.refusal.proofs.Laws.{first-refused, first-passed, first-none}
 use Rattle.tree.specs.Table.{nodes}
 use Rattle.tree.specs.WellFormed.{tableNumber}
@@ -19,10 +19,10 @@ use Rattle.tree.proofs.Accepted.{linked}
 use Rattle.tree.proofs.Stands.{passed}
 use Rattle.rule.specs.Result.{Slices, layoutNumber}
 use Rattle.layout.proofs.Answers.{separation-good, results-long, work-long, number-table, number-0}
-use Rattle.sheet.specs.Layout.{mostNodes, mostSeparation, blocksFor}
+use Rattle.sheet.specs.Layout.{mostNodes, mostSeparation}
 use Rattle.lines.specs.Listing.{refusedLine}
 use Rattle.lines.proofs.Answer.{both}
-use Rattle.sheet.specs.Read.{nodesOf, separationOf, within, fixedWrong, layoutWrong, roomWrong, fileConditions, fileNumber, refusal}
+use Rattle.sheet.specs.Read.{nodesOf, separationOf, within, roomWrong, fileConditions, fileNumber, refusal}
 use Rattle.render.specs.Text.{unlessRefused}
 
 -- ---- the layout

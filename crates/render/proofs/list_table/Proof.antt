@@ -1,17 +1,16 @@
 -- `render::list_table` meets its contract: the layout's number is the table's, and the slices hold what the rule gives. Assumes nothing.
 use mathlib.Core.Path.{_≡_, sym}
 use mathlib.Core.List.{List}
-use Prim.Native.Nat.{ℕ, _*_, _≤_}
+use Prim.Native.Nat.{ℕ, _≤_}
 use native.Mathlib.Omega.{arith}
 use lib.IntN.{pos}
 use lib.ListN.{length, replicate}
 use lib.Seq.{length-take-le}
 use borrow.Author.Needs.{needs}
 use Rattle.tree.specs.Table.{nodes}
-use Rattle.tree.specs.WellFormed.{tableNumber}
 use Rattle.rule.specs.Result.{Slices, Answer, Layout}
 use Rattle.layout.specs.Operation.{slices, answer}
-use Rattle.render.proofs.Listed.{Ample, number-decided, few, refused-listed, accepted-listed}
+use Rattle.render.proofs.Listed.{Ample, few, refused-listed, accepted-listed}
 use Rattle.render.proofs.list_table.Statement.{statement}
 use Rattle.render.proofs.list_table.Tie as tie
 
