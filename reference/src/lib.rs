@@ -6,9 +6,11 @@
 pub mod ffi;
 pub mod layout;
 pub mod lent;
+pub mod listing;
 pub mod pointer;
 pub mod random;
 pub mod run;
+pub mod samples;
 pub mod shapes;
 pub mod sheet;
 pub mod table;

@@ -1,0 +1,145 @@
+//! The model of the listing: what the program must print for an input.
+
+use crate::layout::{layout, LaidOut, Slices};
+use crate::sheet::{read, Read};
+use crate::table::MOST_NODES;
+
+/// The bytes for this input.
+pub fn listing(file: &[u8]) -> Vec<u8> {
+    match lines(file) {
+        Ok(lines) => lines.concat(),
+        Err(number) => format!("refused {number}\n"),
+    }
+    .into_bytes()
+}
+
+/// The sheet's line and one for each node, or the number of the refusal.
+fn lines(file: &[u8]) -> Result<Vec<String>, u16> {
+    let sheet = read(file, &[0; 2 * MOST_NODES], &[0; 2 * MOST_NODES]);
+    if sheet.number != 0 {
+        return Err(sheet.number);
+    }
+    let nodes = usize::from(sheet.nodes);
+    let lent = Slices {
+        places: &[0; MOST_NODES],
+        levels: &[0; MOST_NODES],
+        record: &[0; 2 * MOST_NODES],
+        work: &[0; 16 * MOST_NODES],
+    };
+    let laid = layout(&sheet.table[..2 * nodes], sheet.separation, &lent);
+    if laid.number != 0 {
+        return Err(laid.number);
+    }
+    let mut lines = vec![sheet_line(&sheet, &laid)];
+    lines.extend((0..nodes).map(|node| node_line(node, &sheet, &laid)));
+    Ok(lines)
+}
+
+fn sheet_line(sheet: &Read, laid: &LaidOut) -> String {
+    format!(
+        "sheet {} {} {} {} {}\n",
+        laid.nodes, laid.level_count, sheet.separation, laid.least, laid.greatest
+    )
+}
+
+fn node_line(node: usize, sheet: &Read, laid: &LaidOut) -> String {
+    let (low, high) = (sheet.tapes[2 * node], sheet.tapes[2 * node + 1]);
+    let tape = u32::from(low) + 65_536 * u32::from(high);
+    format!(
+        "{node} {} {} {tape}\n",
+        laid.levels[node], laid.places[node]
+    )
+}
+
+#[cfg(test)]
+mod tests {
+    use super::*;
+    use crate::shapes;
+    use crate::sheet::{blocks_of, bytes_of, close, example, write, Sheet};
+    use crate::table::NONE;
+
+    fn expect(file: &[u8], text: &str) {
+        assert_eq!(String::from_utf8_lossy(&listing(file)), text);
+    }
+
+    /// A sheet with D = 1 and tapes 0.
+    fn plain(table: &[u16]) -> Sheet {
+        Sheet {
+            separation: 1,
+            table: table.to_vec(),
+            tapes: vec![0; table.len()],
+        }
+    }
+
+    #[test]
+    fn the_example_of_the_paper() {
+        expect(
+            &write(&example()),
+            "sheet 3 2 3 -1 2\n0 0 0 500\n1 1 -1 501\n2 1 2 502\n",
+        );
+    }
+
+    #[test]
+    fn tape_numbers_of_both_words() {
+        let mut sheet = plain(&shapes::chain(4));
+        sheet.tapes = vec![65_535, 65_535, 65_535, 0, 0, 1, 1, 32_768];
+        expect(
+            &write(&sheet),
+            "sheet 4 4 1 0 0\n0 0 0 4294967295\n1 1 0 65535\n2 2 0 65536\n3 3 0 2147483649\n",
+        );
+    }
+
+    #[test]
+    fn lines_in_the_order_of_numbers() {
+        // Node 2 is the first child, node 1 the second.
+        let sheet = plain(&[2, NONE, NONE, NONE, NONE, 1]);
+        expect(
+            &write(&sheet),
+            "sheet 3 2 1 0 1\n0 0 0 0\n1 1 1 0\n2 1 0 0\n",
+        );
+    }
+
+    #[test]
+    fn the_largest_sheets() {
+        let chain = listing(&write(&plain(&shapes::chain(1_024))));
+        assert!(chain.starts_with(b"sheet 1024 1024 1 0 0\n0 0 0 0\n"));
+        assert!(chain.ends_with(b"\n1023 1023 0 0\n"));
+        let mut star = plain(&shapes::star(1_024));
+        star.separation = 1_024;
+        let star = listing(&write(&star));
+        assert!(star.starts_with(b"sheet 1024 2 1024 -523264 523264\n0 0 0 0\n1 1 -523264 0\n"));
+        assert!(star.ends_with(b"\n1023 1 523264 0\n"));
+    }
+
+    #[test]
+    fn refusals_of_the_reader() {
+        let file = write(&example());
+        expect(&[], "refused 9\n");
+        expect(&file[..1_023], "refused 9\n");
+        expect(&[0; 9_217], "refused 9\n");
+        let mut flipped = file.clone();
+        flipped[700] ^= 16;
+        expect(&flipped, "refused 10\n");
+        let mut blocks = blocks_of(&file);
+        blocks.swap(0, 1);
+        expect(&bytes_of(&blocks), "refused 11\n");
+        blocks.swap(0, 1);
+        blocks[0][3] = 1_025;
+        close(&mut blocks[0]);
+        expect(&bytes_of(&blocks), "refused 12\n");
+    }
+
+    #[test]
+    fn refusals_of_the_tree_in_a_sound_file() {
+        let cases: [(&[u16], &str); 5] = [
+            (&[2, NONE, NONE, NONE], "refused 2\n"),
+            (&[NONE, 1, NONE, NONE], "refused 3\n"),
+            (&[1, NONE, NONE, 1], "refused 4\n"),
+            (&[0, NONE], "refused 4\n"),
+            (&[NONE, NONE, 2, NONE, 1, NONE], "refused 5\n"),
+        ];
+        for (table, text) in cases {
+            expect(&write(&plain(table)), text);
+        }
+    }
+}
