@@ -1,13 +1,15 @@
 //! The independent reference of the copy sheet library.
 //!
 //! The models say what each operation must give, written from the paper alone and meant to be
-//! obviously right rather than fast. The comparisons in `tests/` hold the library against them.
+//! obviously right rather than fast. The comparisons in `tests/` hold the library and its listing
+//! program against them.
 
 pub mod ffi;
 pub mod layout;
 pub mod lent;
 pub mod listing;
 pub mod pointer;
+pub mod program;
 pub mod random;
 pub mod run;
 pub mod samples;

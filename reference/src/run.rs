@@ -74,6 +74,22 @@ impl Run {
         self.reported_calls = self.calls;
     }
 
+    /// Prints a line under the comparison's name.
+    pub fn note(&self, text: &str) {
+        say(format_args!("{}: {text}", self.name));
+    }
+
+    /// Fails the comparison unless just these numbers have occurred, given in rising order.
+    pub fn expect_numbers(&self, numbers: &[u16]) {
+        let occurred: Vec<u16> = self.numbers.keys().copied().collect();
+        self.expect(
+            "numbers that occurred",
+            &occurred[..],
+            numbers,
+            &"all calls",
+        );
+    }
+
     /// Prints all calls and how many gave each number; fails if they are too few.
     pub fn finish(self, least_calls: u64) {
         let Run { name, calls, .. } = self;
