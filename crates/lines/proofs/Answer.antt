@@ -7,7 +7,7 @@ use mathlib.Core.Bool.{Bool, true, false, _&&_, true≢false}
 use mathlib.Core.List.{List, _++_}
 use lib.Dec.{leb}
 use lib.ListN.{length, drop, length-append}
-use lib.Seq.{sets-eq}
+use lib.Seq.{sets-eq, length-take-le}
 use borrow.Author.Tests.{leb-true}
 use Rattle.refusal.specs.After.{overwrite}
 use Rattle.lines.specs.Printed.{mostNodes, listingRoom, printable, when, Printed}
@@ -16,7 +16,7 @@ use Rattle.lines.specs.Steps.{Put}
 -- where the test fails there is no text
 pub not-printed : {test : Bool} {old : List ℕ} (text : List ℕ) → test ≡ false → Printed (when test text) old 0 old
 unfolding overwrite
-not-printed {old = old} text fails = subst (λ (b : Bool). Printed (when b text) old 0 old) (sym fails) (record { bytes = refl; buffer = refl })
+not-printed {old = old} text fails = subst (λ (b : Bool). Printed (when b text) old 0 old) (sym fails) (record { bytes = refl; buffer = refl; counts = (omega arith, refl) })
 
 -- where it holds, the text that is stored
 pub printed : {test : Bool} {text old new : List ℕ} {answer : ℕ} → test ≡ true → length text ≤ length old → Put 0 text old answer new
@@ -24,9 +24,12 @@ pub printed : {test : Bool} {text old new : List ℕ} {answer : ℕ} → test �
 unfolding overwrite
 printed {text = text} {old = old} {new = new} {answer = answer} holds room put =
     let within : 0 + length text ≤ length old = omega arith in
+    let buffer : new ≡ overwrite text old = put .buffer ∙ sets-eq text old 0 within ∙ ap (λ (k : ℕ). text ++ drop k old) (zero-add (length text)) in
+    let inside : answer ≤ length new = omega (arith, put .place, ap length buffer, length-append text (drop (length text) old)) in
     subst (λ (b : Bool). Printed (when b text) old answer new) (sym holds) (record {
       bytes = put .place ∙ zero-add (length text);
-      buffer = put .buffer ∙ sets-eq text old 0 within ∙ ap (λ (k : ℕ). text ++ drop k old) (zero-add (length text));
+      buffer = buffer;
+      counts = (inside, sym (length-take-le answer new inside));
     })
 
 -- what is known where a listing is written
@@ -55,8 +58,3 @@ able n levels places tapes bytes h =
       tapes-enough = leb-true _ _ (d .0);
       room = leb-true _ _ (d .1);
     }
-
--- a text that is printed lies within the buffer
-pub printed-within : {text old new : List ℕ} {answer : ℕ} → Printed text old answer new → answer ≤ length new
-unfolding overwrite
-printed-within {text} {old} p = omega (arith, p .bytes, ap length (p .buffer), length-append text (drop (length text) old))

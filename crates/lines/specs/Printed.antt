@@ -1,11 +1,11 @@
 -- What the two operations promise: which text they write, and what the buffer holds afterwards.
-use Prim.Native.Nat.{ℕ, _+_, _*_}
+use Prim.Native.Nat.{ℕ, _+_, _*_, _≤_}
 use mathlib.Core.Path.{_≡_}
 use mathlib.Core.Bool.{Bool, cond, _&&_}
 use mathlib.Core.List.{List, []}
 use lib.Dec.{leb}
 use lib.IntN.{ℤ}
-use lib.ListN.{length}
+use lib.ListN.{length, take}
 use Rattle.refusal.specs.After.{overwrite}
 use Rattle.lines.specs.Listing.{listing, refusedLine}
 
@@ -36,10 +36,15 @@ printable n levels places tapes bytes =
 abbrev pub when : Bool → List ℕ → List ℕ
 when test text = cond test text []
 
+-- n counts bytes at the start of a buffer. The second part follows from the first; a caller that hands those bytes on needs both.
+abbrev pub Counts : ℕ → List ℕ → Type 0
+Counts n buffer = (n ≤ length buffer) × (n ≡ length (take n buffer))
+
 -- a text stands at the buffer's start, the bytes past it are untouched, and the answer is its length
 pub record Printed (text old : List ℕ) (answer : ℕ) (new : List ℕ) : Type 0 where
   pub bytes : answer ≡ length text
   pub buffer : new ≡ overwrite text old
+  pub counts : Counts answer new
 
 -- what `write_listing` promises
 abbrev pub ListingPrinted : ℕ → ℕ → ℕ → ℤ → ℤ → List ℕ → List ℤ → List ℕ → List ℕ → ℕ → List ℕ → Type 0

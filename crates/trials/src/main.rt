@@ -1,4 +1,5 @@
-// Runs the sheets to try that need no layout, and prints one line for each: what is tried, and what comes of it.
+// Runs the sheets to try, and prints one line for each: what is tried, and what comes of it.
+ghost use Prim.Native.Nat.{_<_};
 ghost use mathlib.Core.Path.{_≡_};
 ghost use lib.ListN.{length};
 
@@ -13,6 +14,16 @@ fn say(text: &[u8]) {
 }
 
 fn say_number(number: u16) {
+    say(b" ");
+    io::print_decimal(STDOUT_FILENO, number as u64);
+}
+
+fn say_signed(number: i32) {
+    if number < 0 {
+        say(b" -");
+        io::print_decimal(STDOUT_FILENO, (-(number as i64)) as u64);
+        return;
+    }
     say(b" ");
     io::print_decimal(STDOUT_FILENO, number as u64);
 }
@@ -94,22 +105,54 @@ fn try_read(what: &[u8], file: &[u8]) {
     say(b"\n");
 }
 
-// A chain of 1,024 nodes.
-fn chain() -> [u16; 2048]
+fn try_layout(what: &[u8], table: &[u16], separation: u16, work: &mut [i32]) {
+    let mut places = [0i32; 1024];
+    let mut levels = [0u16; 1024];
+    let mut measured = [0u16; 2048];
+    say(what);
+    say(b": layout");
+    let drawn = layout::layout(table, separation, &mut places, &mut levels, &mut measured, work);
+    say_answer(drawn.number);
+    if drawn.number == 0 {
+        say(b", nodes");
+        say_number(drawn.nodes);
+        say(b", levels");
+        say_number(drawn.levels);
+        say(b", least");
+        say_signed(drawn.least);
+        say(b", greatest");
+        say_signed(drawn.greatest);
+        say(b", pairs");
+        say_number(drawn.pairs);
+    }
+    say(b"\n");
+}
+
+fn try_list(what: &[u8], file: &[u8]) {
+    let mut text = [0u8; 41024];
+    say(what);
+    say(b": list\n");
+    let end = render::list_sheet(file, &mut text);
+    say(&text[..end]);
+}
+
+// 1,024 nodes, each of which names the next from the given one on: as its first child where the field is 0, and as its next sibling
+// where it is 1.
+fn each_names_next(field: usize, from: usize) -> [u16; 2048]
+    requires { ⌜ field < 2 ⌝ }
     ensures { λ r. ⌜ 2048 ≡ length r ⌝ }
 {
     let mut table = [NONE; 2048];
-    let mut node = 0;
+    let mut node = from;
     while node < 1023 {
-        table[2 * node] = node as u16 + 1;
+        table[2 * node + field] = node as u16 + 1;
         node += 1;
     }
     table
 }
 
-fn main() {
+fn try_tables() {
     let family = [1, NONE, NONE, 2, NONE, NONE];
-    let chain = chain();
     try_check(b"P8, length 0", &family[..0]);
     try_check(b"P9, the root has a sibling", &[NONE, 1, NONE, NONE]);
     try_check(b"P10, the root is its own child", &[0, NONE]);
@@ -118,15 +161,58 @@ fn main() {
         b"1 and 2 name each other as first child",
         &[NONE, NONE, 2, NONE, 1, NONE],
     );
-    try_check(b"a chain of length 2,048", &chain);
+    try_check(b"a chain of length 2,048", &each_names_next(0, 0));
     try_check(b"length 2,050", &[NONE; 2050]);
     try_mirror(b"a root with two leaves", &family);
     try_renumber(
         b"a root with leaves 2 and 1",
         &[2, NONE, NONE, NONE, NONE, 1],
     );
+}
+
+fn try_small_layouts() {
+    let family = [1, NONE, NONE, 2, NONE, NONE];
+    let mut work = [0i32; 48];
+    try_layout(b"two leaves, D = 1", &family, 1, &mut work);
+    try_layout(b"two leaves, D = 1,024", &family, 1024, &mut work);
+    try_layout(b"two leaves, D = 1,025", &family, 1025, &mut work);
+    try_layout(b"two leaves, D = 0", &family, 0, &mut work);
+    let mut short = [0i32; 47];
+    try_layout(b"two leaves, work of 16n", &family, 3, &mut work);
+    try_layout(b"two leaves, work of 16n - 1", &family, 3, &mut short);
+    try_layout(
+        b"1 and 2 name each other as first child",
+        &[NONE, NONE, 2, NONE, 1, NONE],
+        3,
+        &mut work,
+    );
+}
+
+fn try_large_layouts() {
+    let chain = each_names_next(0, 0);
+    let mut star = each_names_next(1, 1);
+    star[0] = 1;
+    let mut work = [0i32; 16384];
+    try_layout(b"a chain of length 2,048", &chain, 1024, &mut work);
+    try_layout(b"a star of length 2,048, D = 1", &star, 1, &mut work);
+    try_layout(b"a star of length 2,048, D = 1,024", &star, 1024, &mut work);
+    try_layout(b"length 2,050", &[NONE; 2050], 1, &mut work);
+    let mut short = [0i32; 16383];
+    try_layout(b"a chain, work of 16n - 1", &chain, 1024, &mut short);
+}
+
+fn try_files() {
     let mut file = example::file();
     try_read(b"the sheet file of a root with two leaves", &file);
+    try_list(b"the sheet file of a root with two leaves", &file);
     file[511] = 254;
     try_read(b"the same with a wrong check word", &file);
+    try_list(b"the same with a wrong check word", &file);
+}
+
+fn main() {
+    try_tables();
+    try_small_layouts();
+    try_large_layouts();
+    try_files();
 }
