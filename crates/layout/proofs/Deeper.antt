@@ -10,6 +10,7 @@ use lib.Dec.{eqb}
 use lib.IntN.{ℤ, pos, _+ℤ_}
 use Rattle.tree.specs.Table.{nodes}
 use Rattle.tree.specs.Forest.{treeOf}
+use Rattle.tree.proofs.Tests.{true-false}
 use Rattle.rule.specs.Drawing.{Dot, firstOf, lastOf}
 use Rattle.rule.specs.Join.{above0}
 use Rattle.layout.specs.LevelOrder.{firstAt}
@@ -92,13 +93,6 @@ module _ (t : List ℕ) (D f c end default : ℕ) (before : List ℤ) (K : Joini
   or-true-right true y e = refl
   or-true-right false y e = e
 
-  differ : true ≡ false → ⊥
-  differ e = subst (λ (b : Bool). kind b) e tt
-    where
-      kind : Bool → Type 0
-      kind true = Unit {0}
-      kind false = ⊥
-
   ended-row : first (s .a) ≡ first (s .b) → isEnd after (s .a) (s .b) (s .e) ≡ true
   ended-row e = or-true-left _ _ (eq-eqb (firstOfChildren after (s .a)) (firstOfChildren after (s .b)) (first-of (s .a) a-few ∙ e ∙ sym (first-of (s .b) b-few)))
 
@@ -117,8 +111,8 @@ module _ (t : List ℕ) (D f c end default : ℕ) (before : List ℤ) (K : Joini
 
   pub walk-below : isEnd after (s .a) (s .b) (s .e) ≡ false → Walking (J t D f c end default before K) (F t D f c end default before K) new below
   walk-below go-on =
-      ⊎-elim (λ e. absurd (differ (sym (ended-row (e .1)) ∙ go-on)))
-      (λ X. ⊎-elim (λ e. absurd (differ (sym (ended-child (e .1)) ∙ go-on)))
+      ⊎-elim (λ e. absurd (true-false (sym (ended-row (e .1)) ∙ go-on)))
+      (λ X. ⊎-elim (λ e. absurd (true-false (sym (ended-child (e .1)) ∙ go-on)))
       (λ Y. subst (Walking (J t D f c end default before K) (F t D f c end default before K) new) same-stand
       (walk-down (J t D f c end default before K) (F t D f c end default before K) (fieldsOf (columnsOf now)) new s W turned-amount (met-before-c t D f c end default before K now s W kept)
       (X .0) (Y .0) (X .1) (Y .1) (X .2) (Y .2)))

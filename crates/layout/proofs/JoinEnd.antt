@@ -12,6 +12,7 @@ use lib.ListN.{length}
 use Rattle.tree.specs.Table.{nodes}
 use Rattle.tree.specs.Forest.{treeOf}
 use Rattle.tree.proofs.Counting.{All, is-cases}
+use Rattle.tree.proofs.Tests.{true-false}
 use Rattle.rule.specs.Drawing.{Dot, lastPlace, lastOf}
 use Rattle.rule.specs.Join.{start, total}
 use Rattle.layout.specs.LevelOrder.{firstAt}
@@ -67,13 +68,6 @@ module _ (t : List ℕ) (D f c end default : ℕ) (before : List ℤ) (K : Joini
   abbrev child-test : Bool
   child-test = ltb (firstOfChildren after (s .b)) (pastChildren after (s .e - 1))
 
-  differ : false ≡ true → ⊥
-  differ e = subst (λ (b : Bool). kind b) e tt
-    where
-      kind : Bool → Type 0
-      kind false = Unit {0}
-      kind true = ⊥
-
   by : (p q : Bool) → row-test ≡ p → child-test ≡ q → Ends t D f c end default before K after (thread p q) m (default-by p q)
       → Ends t D f c end default before K after (threaded after (s .a) (s .b) (s .e) (s .right) (s .left) (s .outerLeft) (s .outerRight) z) m (newDefault after (s .a) (s .b) (s .e) c default)
   by p q ep eq E = subst₂ (λ (x y : Bool). Ends t D f c end default before K after (thread x y) m (default-by x y)) (sym ep) (sym eq) E
@@ -88,7 +82,7 @@ module _ (t : List ℕ) (D f c end default : ℕ) (before : List ℤ) (K : Joini
       children)
       (λ X. ⊎-elim
       (λ Y. by true false (lt-ltb (firstOfChildren after (s .a)) (firstOfChildren after (s .b)) (omega (arith, fa, fb, X .3))) (le-ltb (firstOfChildren after (s .b)) (pastChildren after (s .e - 1)) (omega (arith, fb, pe, Y .1))) (ends-child t D f c end default before K now s W kept z ez (Y .0)))
-      (λ Y. absurd (differ (sym (both-differ (X .3) (Y .3)) ∙ stop)))
+      (λ Y. absurd (true-false (sym stop ∙ both-differ (X .3) (Y .3))))
       children)
       (runs-cases first (first (s .a)) (first (s .b)) (W .xs) (W .runs-row .4))
     where

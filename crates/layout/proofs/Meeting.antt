@@ -1,9 +1,9 @@
 -- One level of the walk over the working slice: the meeting is gathered, and the child's last node is marked. Assumes nothing.
-use mathlib.Core.Path.{_≡_, refl, sym, ap, _∙_, subst, subst₂, fun-ext}
+use mathlib.Core.Path.{_≡_, sym, ap, _∙_, subst, subst₂, fun-ext}
 use mathlib.Core.Logic.{_⊎_, inl, inr, ⊎-elim}
 use mathlib.Core.Bool.{Bool, cond}
 use mathlib.Core.List.{List, [], _∷_, _++_}
-use Prim.Native.Nat.{ℕ, zero, suc, _+_, _-_, _*_, _/_, _≤_, _<_}
+use Prim.Native.Nat.{ℕ, suc, _+_, _-_, _*_, _/_, _≤_, _<_}
 use native.Mathlib.Omega.{arith}
 use lib.Dec.{eqb}
 use borrow.Author.Tests.{ne-eqb}
@@ -97,19 +97,15 @@ module _ (t : List ℕ) (D f c end default : ℕ) (before : List ℤ) (K : Joini
 
   -- ---- the meeting
 
-  none-or-some : (m : ℕ) → (m ≡ 0) ⊎ ((k : ℕ) × (m ≡ suc k))
-  none-or-some zero = inl refl
-  none-or-some (suc m) = inr (m, refl)
-
-  noted-some : (j m k : ℕ) → m ≡ suc k → cond (eqb m 0) now (shared now j c m) ≡ shared now j c m
-  noted-some j m k e = ap (λ (b : Bool). cond b now (shared now j c m)) (ne-eqb m 0 (λ z. omega (arith, z, e)))
+  noted-some : (j m : ℕ) → (m ≡ 0 → ⊥) → cond (eqb m 0) now (shared now j c m) ≡ shared now j c m
+  noted-some j m e = ap (λ (b : Bool). cond b now (shared now j c m)) (ne-eqb m 0 e)
 
   -- nothing is gathered, or the amount is shared
   mid-cases : ((close ≡ 0) × (mid ≡ now)) ⊎ (mid ≡ shared now i c close)
   mid-cases =
-      ⊎-elim (λ e. inl (e, ap (λ (m : ℕ). cond (eqb m 0) now (shared now (ownerOf (get now ANCESTOR (s .b - 1)) f c default) c m)) e))
-      (λ e. inr (noted-some (ownerOf (get now ANCESTOR (s .b - 1)) f c default) close (e .0) (e .1) ∙ ap (λ (j : ℕ). shared now j c close) owner-found))
-      (none-or-some close)
+      ⊎-elim (λ e. inl (e .0, ap (λ (m : ℕ). cond (eqb m 0) now (shared now (ownerOf (get now ANCESTOR (s .b - 1)) f c default) c m)) (e .0)))
+      (λ e. inr (noted-some (ownerOf (get now ANCESTOR (s .b - 1)) f c default) close (e .0) ∙ ap (λ (j : ℕ). shared now j c close) owner-found))
+      (is-cases close 0)
 
   room : 16 * nodes t ≤ length now
   room = omega (arith, K .rowed .numbered .size, kept .size)

@@ -1,6 +1,6 @@
 -- The forest of a run of positions: its first node and its last, its nodes, and the runs on its levels. Assumes nothing.
 use mathlib.Core.Path.{_≡_, refl, sym, ap, ap₂, _∙_, subst}
-use mathlib.Core.Logic.{_⊎_, inl, inr, ⊎-elim}
+use mathlib.Core.Logic.{⊎-elim}
 use mathlib.Core.Bool.{Bool, true, false}
 use Prim.Native.Nat.{ℕ, zero, suc, _+_, _-_, _≤_, _<_}
 use native.Mathlib.Nat.{le-refl, le-trans}
@@ -113,12 +113,8 @@ module _ (first : ℕ → ℕ) (n : ℕ) (O : Ordered first n) where
         count-join z (run (suc p) (first p)) (run (first p) (first (suc p))),
       ) in
       ⊎-elim (λ s. (
-        ⊎-elim (λ h. omega (arith, h, whole, s .1)) (λ h. absurd (omega (arith, r .1 h, s .0))) (none-or-some (count z (preorder (run (suc p) (first (suc p)))))),
+        ⊎-elim (λ h. omega (arith, h .0, whole, s .1)) (λ h. absurd (omega (arith, r .1 (h .0), s .0))) (below-or-not (count z (preorder (run (suc p) (first (suc p))))) 1),
         (λ h. omega (arith, s .0)),
       ))
       (λ s. (omega (arith, r .0, whole, s .1), (λ h. omega (arith, r .1 (omega (arith, h, whole, s .1))))))
       (is-cases z p)
-    where
-      none-or-some : (m : ℕ) → (m ≡ 0) ⊎ (1 ≤ m)
-      none-or-some zero = inl refl
-      none-or-some (suc m) = inr (omega arith)

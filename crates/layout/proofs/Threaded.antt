@@ -12,8 +12,7 @@ use Rattle.tree.specs.Forest.{node, treeOf}
 use Rattle.tree.specs.Numbers.{is}
 use Rattle.tree.proofs.Counting.{All, all-append, is-cases}
 use Rattle.rule.specs.Drawing.{Dot, width, firstOf, lastOf}
-use Rattle.rule.specs.Join.{above0, start}
-use Rattle.rule.proofs.Signed.{below0, parts-add, parts-sub, parts-eq}
+use Rattle.rule.specs.Join.{start}
 use Rattle.rule.proofs.Names.{Some, some}
 use Rattle.rule.proofs.Within.{OnLevel, top, down}
 use Rattle.rule.proofs.Width.{last-mem, first-mem}
@@ -28,7 +27,7 @@ use Rattle.layout.proofs.Positions.{Ordered, mono-le, within, run, fami
 use Rattle.layout.proofs.Occurs.{times-root}
 use Rattle.layout.proofs.Runs.{Runs}
 use Rattle.layout.proofs.Steps.{left-frame, right-frame, all-inner, inner-weaken, inner-first, inner-last}
-use Rattle.layout.proofs.Walk.{Join, Fields, Stand, Walking, amount, unmarked-now}
+use Rattle.layout.proofs.Walk.{Join, Fields, Stand, Walking, step-to, amount, unmarked-now}
 use Rattle.layout.proofs.WalkEnds.{Ended, child-ends, row-ends}
 use Rattle.layout.proofs.RowNext.{fieldsOf, rule-row, rule-child}
 use Rattle.layout.proofs.Bounds.{on-here}
@@ -129,20 +128,14 @@ module _ (t : List ℕ) (D f c end default : ℕ) (before : List ℤ) (K : Joini
       let r : RightSteps (get before RIGHT) (W .x ∷ x ∷ xs) = subst (λ (l : List (List Dot)). RightSteps (get before RIGHT) (W .x ∷ l)) e (W .right-row) in
       let h : get after RIGHT (s .b - 1) ≡ (lastOf x) .place -ℤ (lastOf (W .x)) .place =
       ap (λ (g : ℕ → ℤ). g (s .b - 1)) (sym same-right) ∙ ap (get before RIGHT) (last-position t D f c end default before K now s W kept) ∙ r .0 in
-      reach (s .right) ((lastOf (W .x)) .place) ((lastOf x) .place) (get after RIGHT (s .b - 1)) (W .right-at) h
-    where
-      reach : (v p q h : ℤ) → v ≡ p → h ≡ q -ℤ p → v +ℤ h ≡ q
-      reach v p q h ev eh = parts-eq (v +ℤ h) q (omega (arith, ap above0 ev, ap below0 ev, ap above0 eh, ap below0 eh, parts-add v h, parts-sub q p))
+      step-to ((lastOf (W .x)) .place) ((lastOf x) .place) (get after RIGHT (s .b - 1)) (s .right) (W .right-at) h
 
   next-child : (y : List Dot) (ys : List (List Dot)) → W .ys ≡ y ∷ ys → s .left +ℤ get after LEFT (s .b) ≡ (firstOf y) .place
   next-child y ys e =
       let r : LeftSteps (get before LEFT) (W .y ∷ y ∷ ys) = subst (λ (l : List (List Dot)). LeftSteps (get before LEFT) (W .y ∷ l)) e (W .left-child) in
       let h : get after LEFT (s .b) ≡ (firstOf y) .place -ℤ (firstOf (W .y)) .place =
       ap (λ (g : ℕ → ℤ). g (s .b)) (sym same-left) ∙ ap (get before LEFT) (sym (W .runs-child .1)) ∙ r .0 in
-      reach (s .left) ((firstOf (W .y)) .place) ((firstOf y) .place) (get after LEFT (s .b)) (W .left-at) h
-    where
-      reach : (v p q h : ℤ) → v ≡ p → h ≡ q -ℤ p → v +ℤ h ≡ q
-      reach v p q h ev eh = parts-eq (v +ℤ h) q (omega (arith, ap above0 ev, ap below0 ev, ap above0 eh, ap below0 eh, parts-add v h, parts-sub q p))
+      step-to ((firstOf (W .y)) .place) ((firstOf y) .place) (get after LEFT (s .b)) (s .left) (W .left-at) h
 
   next-level-on : (us : List (List Dot)) (x x′ : List Dot) (xs′ ls : List (List Dot)) → ls ≡ us ++ (x ∷ x′ ∷ xs′) → (e : Dot) → List·Memᴰ e x′ → OnLevel e (length (us ++ (x ∷ []))) ls
   next-level-on us x x′ xs′ ls q e m =

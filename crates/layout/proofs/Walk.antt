@@ -83,6 +83,10 @@ pub record Walking (J : Join) (before now : Fields) (s : Stand) : Type 0 where
   pub marked : All (λ l. now .ancestor ((lastOf l) .node) ≡ pos (J .c)) above-child
   pub unmarked : (z : ℕ) → All (λ l. (lastOf l) .node ≡ z → ⊥) above-child → now .ancestor z ≡ before .ancestor z
 
+-- a stored step leads from one place of a contour to the next
+pub step-to : (p q h : ℤ) (v : ℤ) → v ≡ p → h ≡ q -ℤ p → v +ℤ h ≡ q
+step-to p q h v ev eh = parts-eq (v +ℤ h) q (omega (arith, ap above0 ev, ap below0 ev, ap above0 eh, ap below0 eh, parts-add v h, parts-sub q p))
+
 -- ---- what a meeting changes
 
 -- the fields after child i, of the row, was met with the amount s, and the new child's node z was marked
@@ -198,10 +202,6 @@ module _ (J : Join) (before old new : Fields) (s : Stand) (W : Walking J before 
           outerRight = s .outerRight +ℤ J .right ((lastOf (W .y)) .node);
           moved = s .moved + amount;
         }
-
-    step-to : (p q h : ℤ) (v : ℤ) → v ≡ p → h ≡ q -ℤ p → v +ℤ h ≡ q
-    step-to p q h v ev eh =
-        parts-eq (v +ℤ h) q (omega (arith, ap above0 ev, ap below0 ev, ap above0 eh, ap below0 eh, parts-add v h, parts-sub q p))
 
     module _ (x′ y′ : List Dot) (xs′ ys′ : List (List Dot)) (ex : W .xs ≡ x′ ∷ xs′) (ey : W .ys ≡ y′ ∷ ys′) where
       pub walk-down : Walking J before new down
