@@ -18,16 +18,6 @@ fn say_number(number: u16) {
     io::print_decimal(STDOUT_FILENO, number as u64);
 }
 
-fn say_signed(number: i32) {
-    if number < 0 {
-        say(b" -");
-        io::print_decimal(STDOUT_FILENO, (-(number as i64)) as u64);
-        return;
-    }
-    say(b" ");
-    io::print_decimal(STDOUT_FILENO, number as u64);
-}
-
 // The entries of a table or of a slice of tape numbers, three nodes' worth.
 fn say_entries(entries: &[u16; 6]) {
     say_number(entries[0]);
@@ -105,27 +95,70 @@ fn try_read(what: &[u8], file: &[u8]) {
     say(b"\n");
 }
 
+fn say_counts(nodes: u16, levels: u16, pairs: u16) {
+    say(b", nodes");
+    say_number(nodes);
+    say(b", levels");
+    say_number(levels);
+    say(b", pairs");
+    say_number(pairs);
+    say(b"\n");
+}
+
+// The listing of up to eight nodes with tape numbers of 0; of more nothing.
+fn say_listing(
+    nodes: u16,
+    level_count: u16,
+    separation: u16,
+    least: i32,
+    greatest: i32,
+    levels: &[u16],
+    places: &[i32],
+) {
+    let mut text = [0u8; 384];
+    let end = lines::write_listing(
+        nodes,
+        level_count,
+        separation,
+        least,
+        greatest,
+        levels,
+        places,
+        &[0u16; 16],
+        &mut text,
+    );
+    say(&text[..end]);
+}
+
 fn try_layout(what: &[u8], table: &[u16], separation: u16, work: &mut [i32]) {
     let mut places = [0i32; 1024];
     let mut levels = [0u16; 1024];
     let mut measured = [0u16; 2048];
     say(what);
     say(b": layout");
-    let drawn = layout::layout(table, separation, &mut places, &mut levels, &mut measured, work);
+    let drawn = layout::layout(
+        table,
+        separation,
+        &mut places,
+        &mut levels,
+        &mut measured,
+        work,
+    );
     say_answer(drawn.number);
-    if drawn.number == 0 {
-        say(b", nodes");
-        say_number(drawn.nodes);
-        say(b", levels");
-        say_number(drawn.levels);
-        say(b", least");
-        say_signed(drawn.least);
-        say(b", greatest");
-        say_signed(drawn.greatest);
-        say(b", pairs");
-        say_number(drawn.pairs);
+    if drawn.number != 0 {
+        say(b"\n");
+        return;
     }
-    say(b"\n");
+    say_counts(drawn.nodes, drawn.levels, drawn.pairs);
+    say_listing(
+        drawn.nodes,
+        drawn.levels,
+        separation,
+        drawn.least,
+        drawn.greatest,
+        &levels,
+        &places,
+    );
 }
 
 fn try_list(what: &[u8], file: &[u8]) {
