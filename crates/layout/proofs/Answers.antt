@@ -17,7 +17,7 @@ use Rattle.tree.specs.Numbers.{upTo}
 use Rattle.tree.specs.Table.{nodes}
 use Rattle.tree.specs.Levels.{Pair, level, neighbours, levelCount}
 use Rattle.tree.specs.WellFormed.{tableConditions, tableNumber}
-use Rattle.tree.proofs.Tests.{true-false, or-false-left, or-false-right, or-false, or-true}
+use Rattle.refusal.proofs.Truth.{or-false-left, or-false-right, or-false, or-true, and-left, and-right}
 use Rattle.rule.specs.Record.{SamePairs, flat}
 use Rattle.rule.specs.Result.{Slices, badSeparation, shortResults, shortWork, layoutNumber, placesOf, levelsOf, leastOf, greatestOf, place, Layout}
 use Rattle.rule.proofs.Promises.{neighbours-count}
@@ -27,14 +27,6 @@ use Rattle.layout.proofs.Recorded.{length-flat}
 use Rattle.layout.proofs.Settling.{length-upTo}
 
 -- ---- the tests
-
-and-left : (a b : Bool) → (a && b) ≡ true → a ≡ true
-and-left true b e = refl
-and-left false b e = e
-
-and-right : (a b : Bool) → (a && b) ≡ true → b ≡ true
-and-right true b e = e
-and-right false b e = absurd (true-false (sym e))
 
 module _ (D : ℕ) where
   pub separation-bad : (D < 1) ⊎ (1024 < D) → badSeparation D ≡ true

@@ -1,7 +1,7 @@
 -- From one level of the walk to the next: where both contours go on, the stand below. Assumes nothing.
 use mathlib.Core.Path.{_≡_, refl, sym, ap, _∙_, subst}
 use mathlib.Core.Logic.{_⊎_, inl, inr, ⊎-elim}
-use mathlib.Core.Bool.{Bool, true, false, _||_}
+use mathlib.Core.Bool.{Bool, true, false, _||_, true≢false}
 use mathlib.Core.List.{List, [], _∷_}
 use Prim.Native.Nat.{ℕ, suc, _+_, _-_, _<_}
 use native.Mathlib.Omega.{arith}
@@ -10,7 +10,6 @@ use lib.Dec.{eqb}
 use lib.IntN.{ℤ, pos, _+ℤ_}
 use Rattle.tree.specs.Table.{nodes}
 use Rattle.tree.specs.Forest.{treeOf}
-use Rattle.tree.proofs.Tests.{true-false}
 use Rattle.rule.specs.Drawing.{Dot, firstOf, lastOf}
 use Rattle.rule.specs.Join.{above0}
 use Rattle.layout.specs.LevelOrder.{firstAt}
@@ -111,8 +110,8 @@ module _ (t : List ℕ) (D f c end default : ℕ) (before : List ℤ) (K : Joini
 
   pub walk-below : isEnd after (s .a) (s .b) (s .e) ≡ false → Walking (J t D f c end default before K) (F t D f c end default before K) new below
   walk-below go-on =
-      ⊎-elim (λ e. absurd (true-false (sym (ended-row (e .1)) ∙ go-on)))
-      (λ X. ⊎-elim (λ e. absurd (true-false (sym (ended-child (e .1)) ∙ go-on)))
+      ⊎-elim (λ e. absurd (true≢false (sym (ended-row (e .1)) ∙ go-on)))
+      (λ X. ⊎-elim (λ e. absurd (true≢false (sym (ended-child (e .1)) ∙ go-on)))
       (λ Y. subst (Walking (J t D f c end default before K) (F t D f c end default before K) new) same-stand
       (walk-down (J t D f c end default before K) (F t D f c end default before K) (fieldsOf (columnsOf now)) new s W turned-amount (met-before-c t D f c end default before K now s W kept)
       (X .0) (Y .0) (X .1) (Y .1) (X .2) (Y .2)))

@@ -1,7 +1,7 @@
 -- One child joined: the walk has ended, its thread is set and the child's place is written. Assumes nothing.
 use mathlib.Core.Path.{_≡_, sym, ap, ap₂, _∙_, subst, subst₂, fun-ext}
 use mathlib.Core.Logic.{_⊎_, inl, inr, ⊎-elim}
-use mathlib.Core.Bool.{Bool, true, false, cond, _||_}
+use mathlib.Core.Bool.{Bool, true, false, cond, _||_, true≢false}
 use mathlib.Core.List.{List, [], _∷_}
 use Prim.Native.Nat.{ℕ, suc, _+_, _-_, _*_, _≤_, _<_}
 use native.Mathlib.Omega.{arith}
@@ -12,7 +12,6 @@ use lib.ListN.{length}
 use Rattle.tree.specs.Table.{nodes}
 use Rattle.tree.specs.Forest.{treeOf}
 use Rattle.tree.proofs.Counting.{All, is-cases}
-use Rattle.tree.proofs.Tests.{true-false}
 use Rattle.rule.specs.Drawing.{Dot, lastPlace, lastOf}
 use Rattle.rule.specs.Join.{start, total}
 use Rattle.layout.specs.LevelOrder.{firstAt}
@@ -82,7 +81,7 @@ module _ (t : List ℕ) (D f c end default : ℕ) (before : List ℤ) (K : Joini
       children)
       (λ X. ⊎-elim
       (λ Y. by true false (lt-ltb (firstOfChildren after (s .a)) (firstOfChildren after (s .b)) (omega (arith, fa, fb, X .3))) (le-ltb (firstOfChildren after (s .b)) (pastChildren after (s .e - 1)) (omega (arith, fb, pe, Y .1))) (ends-child t D f c end default before K now s W kept z ez (Y .0)))
-      (λ Y. absurd (true-false (sym stop ∙ both-differ (X .3) (Y .3))))
+      (λ Y. absurd (true≢false (sym stop ∙ both-differ (X .3) (Y .3))))
       children)
       (runs-cases first (first (s .a)) (first (s .b)) (W .xs) (W .runs-row .4))
     where

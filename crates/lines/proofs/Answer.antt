@@ -3,13 +3,14 @@ use mathlib.Core.Path.{_≡_, refl, sym, ap, _∙_, subst}
 use Prim.Native.Nat.{ℕ, _+_, _*_, _≤_}
 use native.Mathlib.Nat.{zero-add}
 use native.Mathlib.Omega.{arith}
-use mathlib.Core.Bool.{Bool, true, false, _&&_, true≢false}
+use mathlib.Core.Bool.{Bool, true, false}
 use mathlib.Core.List.{List, _++_}
 use lib.Dec.{leb}
 use lib.ListN.{length, drop, length-append}
 use lib.Seq.{sets-eq, length-take-le}
 use borrow.Author.Tests.{leb-true}
 use Rattle.refusal.specs.After.{overwrite}
+use Rattle.refusal.proofs.Truth.{and-left, and-right}
 use Rattle.lines.specs.Printed.{mostNodes, listingRoom, printable, when, Printed}
 use Rattle.lines.specs.Steps.{Put}
 
@@ -40,21 +41,15 @@ pub record Able (n levels places tapes bytes : ℕ) : Type 0 where
   pub tapes-enough : 2 * n ≤ tapes
   pub room : listingRoom n ≤ bytes
 
--- two tests that hold
-pub both : (a b : Bool) → a && b ≡ true → (a ≡ true) × (b ≡ true)
-both true b h = (refl, h)
-both false b h = absurd (true≢false (sym h))
-
 pub able : (n levels places tapes bytes : ℕ) → printable n levels places tapes bytes ≡ true → Able n levels places tapes bytes
 able n levels places tapes bytes h =
-    let a = both (leb n mostNodes) _ h in
-    let b = both (leb n levels) _ (a .1) in
-    let c = both (leb n places) _ (b .1) in
-    let d = both (leb (2 * n) tapes) _ (c .1) in
+    let a = and-right (leb n mostNodes) _ h in
+    let b = and-right (leb n levels) _ a in
+    let c = and-right (leb n places) _ b in
     record {
-      nodes = leb-true _ _ (a .0);
-      levels-enough = leb-true _ _ (b .0);
-      places-enough = leb-true _ _ (c .0);
-      tapes-enough = leb-true _ _ (d .0);
-      room = leb-true _ _ (d .1);
+      nodes = leb-true _ _ (and-left (leb n mostNodes) _ h);
+      levels-enough = leb-true _ _ (and-left (leb n levels) _ a);
+      places-enough = leb-true _ _ (and-left (leb n places) _ b);
+      tapes-enough = leb-true _ _ (and-left (leb (2 * n) tapes) _ c);
+      room = leb-true _ _ (and-right (leb (2 * n) tapes) _ c);
     }

@@ -17,7 +17,7 @@ use Rattle.tree.specs.Numbers.{upTo}
 use Rattle.tree.specs.Table.{nodes}
 use Rattle.tree.specs.Levels.{level, levelCount}
 use Rattle.tree.specs.WellFormed.{tableNumber}
-use Rattle.tree.proofs.Tests.{or-true}
+use Rattle.refusal.proofs.Truth.{or-true}
 use Rattle.tree.proofs.Stands.{accepted-length}
 use Rattle.rule.specs.Result.{Slices, Answer, Layout, layoutNumber, place, placesOf, levelsOf, leastOf, greatestOf}
 use Rattle.layout.proofs.Carried.{carried}
@@ -29,10 +29,11 @@ use Rattle.sheet.specs.Layout.{blocksFor}
 use Rattle.sheet.specs.declared.Sheet.{Sheet}
 use Rattle.sheet.specs.Read.{nodesOf, separationOf, nodePair, tableOf, tapesOf, lengthWrong, fileNumber, refusal, SheetRead}
 use Rattle.sheet.proofs.Below.{length-joined}
+use Rattle.sheet.proofs.Answer.{readable, file-decides}
 use Rattle.lines.specs.Listing.{listing, refusedLine}
 use Rattle.lines.specs.Printed.{mostNodes, refusalRoom, listingRoom, printable, when, Printed, ListingPrinted, RefusalPrinted}
 use Rattle.render.specs.Text.{textRoom, drawnListing, tableText, sheetText}
-use Rattle.render.proofs.Numbers.{most-nodes, table-decides, readable, file-decides, written, text-refused, text-granted}
+use Rattle.render.proofs.Numbers.{most-nodes, table-decides, written, text-refused, text-granted}
 
 -- a text that is printed where a test holds
 shown : {test : Bool} {text wanted old new : List ℕ} {answer : ℕ} → test ≡ true → text ≡ wanted → Printed (when test text) old answer new

@@ -13,7 +13,8 @@ use Rattle.tree.specs.Forest.{node, preorder, treeOf}
 use Rattle.tree.specs.Levels.{levels, together, levelIn, level}
 use Rattle.tree.specs.WellFormed.{tableNumber}
 use Rattle.tree.proofs.Counting.{is-same, is-cases, below-or-not, count-append, count-outside}
-use Rattle.tree.proofs.Tests.{true-or-false, member-count, member-none}
+use Rattle.refusal.proofs.Truth.{true-or-false}
+use Rattle.tree.proofs.Tests.{member-count, member-none}
 use Rattle.tree.proofs.Stands.{Numbers, accepted-numbers}
 use Rattle.tree.proofs.LevelOf.{count-levels}
 use Rattle.rule.specs.Drawing.{Dot}

@@ -1,13 +1,13 @@
 -- Forests of one shape are drawn alike: nothing in a drawing but its nodes' numbers depends on the numbers. Assumes nothing.
 use mathlib.Core.Path.{_≡_, refl, sym, ap, ap₂, _∙_}
-use mathlib.Core.Bool.{Bool, true, false, _&&_}
+use mathlib.Core.Bool.{true, true≢false}
 use mathlib.Core.List.{List, [], _∷_, map}
 use Prim.Native.Nat.{ℕ, suc, _+_, _-_, _/_}
 use lib.IntN.{ℤ, pos, _+ℤ_, _-ℤ_}
+use Rattle.refusal.proofs.Truth.{and-left, and-right}
 use Rattle.tree.specs.Forest.{Forest, nil, node}
 use Rattle.tree.specs.Levels.{beside}
 use Rattle.tree.specs.Shape.{sameShape}
-use Rattle.tree.proofs.Tests.{true-false}
 use Rattle.rule.specs.Drawing.{Drawing, none, at, width, append, firstPlace, lastPlace, middle, Dot, dot, dots, rowDots, firstOf, lastOf, leftContour, rightContour}
 use Rattle.rule.specs.Join.{Meeting, shortfall, meet, shares, total, spread, start, alone, join, meetings, settled, rowContour, newContour}
 use Rattle.rule.specs.Rule.{drawOnto, draw}
@@ -123,18 +123,10 @@ blank-drawOnto D row (node v f g) =
 
 same-blank : (f g : Forest) → sameShape f g ≡ true → blankForest f ≡ blankForest g
 same-blank nil nil e = refl
-same-blank nil (node w g h) e = absurd (true-false (sym e))
-same-blank (node v f k) nil e = absurd (true-false (sym e))
+same-blank nil (node w g h) e = absurd (true≢false (sym e))
+same-blank (node v f k) nil e = absurd (true≢false (sym e))
 same-blank (node v f k) (node w g h) e =
     ap₂ (node 0) (same-blank f g (and-left (sameShape f g) (sameShape k h) e)) (same-blank k h (and-right (sameShape f g) (sameShape k h) e))
-  where
-    and-left : (a b : Bool) → (a && b) ≡ true → a ≡ true
-    and-left true b e = refl
-    and-left false b e = e
-
-    and-right : (a b : Bool) → (a && b) ≡ true → b ≡ true
-    and-right true b e = e
-    and-right false b e = absurd (true-false (sym e))
 
 -- forests of one shape, drawn with one separation, differ in their numbers alone
 pub same-drawing : (D : ℕ) (f g : Forest) → sameShape f g ≡ true → blank (draw D f) ≡ blank (draw D g)

@@ -1,70 +1,101 @@
 -- What the number says of the file and the slices, and the promise of `read_sheet` for a refusal and for an acceptance.
 -- Assumes nothing.
-use mathlib.Core.Path.{_≡_, refl, sym}
+use mathlib.Core.Path.{_≡_, refl, sym, ap, _∙_}
 use Prim.Native.Nat.{ℕ, zero, suc, _*_, _%_, _≤_, _<_}
 use native.Mathlib.Omega.{arith}
-use mathlib.Core.Bool.{Bool, true, false, not, cond, _||_, true≢false}
-use mathlib.Core.List.{List}
-use lib.Dec.{eqb, ltb}
+use mathlib.Core.Bool.{Bool, true, false, not, cond}
+use mathlib.Core.List.{List, [], _∷_, _++_}
+use lib.Dec.{eqb, ltb, leb}
 use lib.ListN.{length}
-use borrow.Author.Tests.{ltb-false, eqb-true, not-false}
+use borrow.Author.Tests.{ltb-false, le-ltb, leb-true, eqb-true, not-false}
+use Rattle.refusal.specs.First.{Condition, _⇐_, first}
 use Rattle.refusal.specs.After.{after}
+use Rattle.refusal.proofs.Laws.{first-refused, first-passed, first-none, none-first}
+use Rattle.refusal.proofs.Truth.{or-false-left, or-false-right, or-false, and-left, and-right}
 use Rattle.sheet.specs.Block.{blockBytes, blockCount, blockAt, sound, inPlace}
 use Rattle.sheet.specs.Layout.{mostNodes, mostSeparation, blocksFor, laidOut}
 use Rattle.sheet.specs.Steps.{RowsRead}
 use Rattle.sheet.proofs.Below.{every-at}
-use Rattle.sheet.specs.Read.{nodesOf, separationOf, someBlockFails, lengthWrong, checkWrong, placeWrong, within, layoutWrong, roomWrong, refusal, SheetRead}
-
--- neither of two tests holds
-neither : (a b : Bool) → a || b ≡ false → (a ≡ false) × (b ≡ false)
-neither true b h = absurd (true≢false h)
-neither false b h = (refl, h)
-
--- a condition that does not decide does not hold
-undecided : (b : Bool) (k x : ℕ) → cond b (suc k) x ≡ 0 → (b ≡ false) × (x ≡ 0)
-undecided true k x h = absurd (omega arith)
-undecided false k x h = (refl, h)
+use Rattle.sheet.specs.Read.{nodesOf, separationOf, someBlockFails, lengthWrong, within, roomWrong, fileConditions, conditions, fileNumber, refusal, SheetRead}
 
 pub long-enough : (bytes : ℕ) → lengthWrong bytes ≡ false → blockBytes * 2 ≤ bytes
 long-enough bytes h =
-    let short = neither (not (eqb (bytes % blockBytes) 0)) _ h .1 in
-    ltb-false bytes (blockBytes * 2) (neither (ltb bytes (blockBytes * 2)) _ short .0)
+    let short = or-false-right (not (eqb (bytes % blockBytes) 0)) _ h in
+    ltb-false bytes (blockBytes * 2) (or-false-left (ltb bytes (blockBytes * 2)) _ short)
 
 -- a test that fails for no block holds for each
 each-block : (test : ℕ → List ℕ → Bool) (file : List ℕ) → someBlockFails test file ≡ false → (b : ℕ) → b < blockCount file
     → test b (blockAt file b) ≡ true
 each-block test file h = every-at (blockCount file) (λ b. test b (blockAt file b)) (not-false _ h)
 
--- what is known of an accepted file and of the slices
-pub record Accepted (file : List ℕ) (tableLength tapesLength : ℕ) : Type 0 where
+-- what is known of a file that can be read
+pub record Readable (file : List ℕ) : Type 0 where
   pub header : blockBytes * 2 ≤ length file
   pub checks : (b : ℕ) → b < blockCount file → sound (blockAt file b) ≡ true
   pub places : (b : ℕ) → b < blockCount file → inPlace b (blockAt file b) ≡ true
+  pub nodes-most : nodesOf file ≤ mostNodes
+  pub separation-some : 1 ≤ separationOf file
+  pub separation-most : separationOf file ≤ mostSeparation
   pub blocks : length file ≡ blockBytes * blocksFor (nodesOf file)
   pub layout : (b : ℕ) → b < blockCount file → laidOut (nodesOf file) b (blockAt file b) ≡ true
+
+in-range : (greatest x : ℕ) → not (within greatest x) ≡ false → (1 ≤ x) × (x ≤ greatest)
+in-range greatest x e =
+    let h = not-false (within greatest x) e in
+    (leb-true 1 x (and-left (leb 1 x) (leb x greatest) h), leb-true x greatest (and-right (leb 1 x) (leb x greatest) h))
+
+pub readable : (file : List ℕ) → fileNumber file ≡ 0 → Readable file
+unfolding fileNumber
+readable file e =
+    let h = first-none (fileConditions file) (omega arith) e in
+    let laid = h .1 .1 .1 .0 in
+    let separation = or-false-right (not (within mostNodes (nodesOf file))) _ laid in
+    let size = or-false-right (not (within mostSeparation (separationOf file))) _ separation in
+    let range = in-range mostSeparation (separationOf file) (or-false-left (not (within mostSeparation (separationOf file))) _ separation) in
+    record {
+      header = long-enough (length file) (h .0);
+      checks = each-block (λ b block. sound block) file (h .1 .0);
+      places = each-block inPlace file (h .1 .1 .0);
+      nodes-most = in-range mostNodes (nodesOf file) (or-false-left (not (within mostNodes (nodesOf file))) _ laid) .1;
+      separation-some = range .0;
+      separation-most = range .1;
+      blocks = eqb-true _ _ (not-false _ (or-false-left (not (eqb (length file) (blockBytes * blocksFor (nodesOf file)))) _ size));
+      layout = each-block (laidOut (nodesOf file)) file (or-false-right (not (eqb (length file) (blockBytes * blocksFor (nodesOf file)))) _ size);
+    }
+
+-- with slices for 1,024 nodes, the file decides
+pub file-decides : (file : List ℕ) (tableLength tapesLength : ℕ) → 2 * mostNodes ≤ tableLength → 2 * mostNodes ≤ tapesLength
+    → refusal file tableLength tapesLength ≡ fileNumber file
+unfolding refusal fileNumber
+file-decides file tableLength tapesLength table tapes = go (fileNumber file) refl
+  where
+    room : List Condition
+    room = 7 ⇐ roomWrong (nodesOf file) tableLength tapesLength ∷ []
+
+    go : (k : ℕ) → fileNumber file ≡ k → first (fileConditions file ++ room) ≡ first (fileConditions file)
+    go zero e =
+        let most = readable file e .nodes-most in
+        first-passed (fileConditions file) room (first-none (fileConditions file) (omega arith) e)
+        ∙ ap (λ (b : Bool). cond b 7 0)
+        (or-false (le-ltb tableLength (2 * nodesOf file) (omega (arith, most))) (le-ltb tapesLength (2 * nodesOf file) (omega (arith, most))))
+        ∙ sym e
+    go (suc k) e = first-refused (fileConditions file) room (λ z. omega (arith, e, z))
+
+-- what is known of an accepted file and of the slices
+pub record Accepted (file : List ℕ) (tableLength tapesLength : ℕ) : Type 0 where
+  pub file-sound : Readable file
   pub table-room : 2 * nodesOf file ≤ tableLength
   pub tapes-room : 2 * nodesOf file ≤ tapesLength
 
 pub accepted : (file : List ℕ) (tableLength tapesLength : ℕ) → refusal file tableLength tapesLength ≡ 0 → Accepted file tableLength tapesLength
-unfolding refusal
-accepted file t s h =
-    let after9 = undecided (lengthWrong (length file)) 8 _ h in
-    let after10 = undecided (checkWrong file) 9 _ (after9 .1) in
-    let after11 = undecided (placeWrong file) 10 _ (after10 .1) in
-    let after12 = undecided (layoutWrong file) 11 _ (after11 .1) in
-    let after7 = undecided (roomWrong (nodesOf file) t s) 6 _ (after12 .1) in
-    let nodes = neither (not (within mostNodes (nodesOf file))) _ (after12 .0) in
-    let separation = neither (not (within mostSeparation (separationOf file))) _ (nodes .1) in
-    let blocks = neither (not (eqb (length file) (blockBytes * blocksFor (nodesOf file)))) _ (separation .1) in
-    let room = neither (ltb t (2 * nodesOf file)) _ (after7 .0) in
+unfolding refusal fileNumber
+accepted file t s e =
+    let h = first-none (conditions file t s) (omega arith) e in
+    let room = h .1 .1 .1 .1 .0 in
     record {
-      header = long-enough (length file) (after9 .0);
-      checks = each-block (λ b block. sound block) file (after10 .0);
-      places = each-block inPlace file (after11 .0);
-      blocks = eqb-true _ _ (not-false _ (blocks .0));
-      layout = each-block (laidOut (nodesOf file)) file (blocks .1);
-      table-room = ltb-false t (2 * nodesOf file) (room .0);
-      tapes-room = ltb-false s (2 * nodesOf file) (room .1);
+      file-sound = readable file (none-first (fileConditions file) (h .0, (h .1 .0, (h .1 .1 .0, (h .1 .1 .1 .0, tt)))));
+      table-room = ltb-false t (2 * nodesOf file) (or-false-left (ltb t (2 * nodesOf file)) _ room);
+      tapes-room = ltb-false s (2 * nodesOf file) (or-false-right (ltb t (2 * nodesOf file)) _ room);
     }
 
 module _ (file table tapes : List ℕ) where

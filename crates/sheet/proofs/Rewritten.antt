@@ -82,18 +82,18 @@ module _ (file : List ℕ) (tableLength tapesLength : ℕ) (held : Accepted file
 
   module _ (fits : EachBelow 256 file) (b : ℕ) (l : b < blocksFor n) where
     there : b < blockCount file
-    there = omega (arith, held .blocks)
+    there = omega (arith, held .file-sound .blocks)
 
     body-word : (k : ℕ) → k < closingPlace → getD (body b) k 0 ≡ wordAt (blockAt file b) k
     unfolding inPlace
-    body-word zero m = sym (eqb-true _ _ (held .places b there))
-    body-word (suc zero) m = sym (count-held (countWord n b) (usedWords n b) (blockAt file b) (held .layout b there))
+    body-word zero m = sym (eqb-true _ _ (held .file-sound .places b there))
+    body-word (suc zero) m = sym (count-held (countWord n b) (usedWords n b) (blockAt file b) (held .file-sound .layout b there))
     body-word (suc (suc i)) m =
         split (usedWords n b) (suc (suc i))
         (λ h.
         List·getD-eq-default (body b) 0 {n = suc (suc i)} (omega (arith, length-body n (separationOf file) (tableOf file n) (tapesOf file n) b))
         ∙ sym (unused-held (countWord n b) (usedWords n b) (blockAt file b)
-        (used-least n (separationOf file) (tableOf file n) (tapesOf file n) b) (suc (suc i)) h m (held .layout b there)))
+        (used-least n (separationOf file) (tableOf file n) (tapesOf file n) b) (suc (suc i)) h m (held .file-sound .layout b there)))
         (λ h. used-word b l i h)
 
     closing-fits : wordAt (blockAt file b) closingPlace < wordLimit
@@ -107,7 +107,7 @@ module _ (file : List ℕ) (tableLength tapesLength : ℕ) (held : Accepted file
         split closingPlace k
         (λ h.
         let last : k ≡ closingPlace = omega arith in
-        rw last (closing-unique (body b) used (blockAt file b) body-word (eqb-true _ _ (held .checks b there)) closing-fits))
+        rw last (closing-unique (body b) used (blockAt file b) body-word (eqb-true _ _ (held .file-sound .checks b there)) closing-fits))
         (λ h. getD-closed (body b) used k h ∙ body-word k h)
 
     block-again : bytesOf (blockOf n (separationOf file) (tableOf file n) (tapesOf file n) b) ≡ blockAt file b
@@ -115,7 +115,7 @@ module _ (file : List ℕ) (tableLength tapesLength : ℕ) (held : Accepted file
     block-again =
         let words : List ℕ = blockOf n (separationOf file) (tableOf file n) (tapesOf file n) b in
         let size : length words ≡ blockWords = length-closed (body b) (body-fits n (separationOf file) (tableOf file n) (tapesOf file n) b) in
-        let whole : length (blockAt file b) ≡ blockBytes = length-block file b (omega (arith, held .blocks)) in
+        let whole : length (blockAt file b) ≡ blockBytes = length-block file b (omega (arith, held .file-sound .blocks)) in
         bytes-words words (blockAt file b) (omega arith) (block-below file b fits) (λ k m. block-word k (lt-of-lt-of-le m (le-of-eq size)))
 
   rewritten : EachBelow 256 file → fileOf n (separationOf file) (tableOf file n) (tapesOf file n) ≡ file
@@ -123,7 +123,7 @@ module _ (file : List ℕ) (tableLength tapesLength : ℕ) (held : Accepted file
   rewritten fits =
       joined-cong (blocksFor n) _ (blockAt file) (λ b l. block-again fits b l)
       ∙ parts-joined blockBytes (blocksFor n) file
-      ∙ take-all (blockBytes * blocksFor n) file (le-of-eq (held .blocks))
+      ∙ take-all (blockBytes * blocksFor n) file (le-of-eq (held .file-sound .blocks))
 
 -- what is read from an accepted file, written again, is that file
 pub read-and-written : (file : List ℕ) (tableLength tapesLength : ℕ) → EachBelow 256 file → refusal file tableLength tapesLength ≡ 0

@@ -2,7 +2,7 @@
 -- Assumes nothing.
 use mathlib.Core.Path.{_≡_, refl, sym, ap, _∙_}
 use mathlib.Core.Logic.{inl, inr, ⊎-elim}
-use mathlib.Core.Bool.{Bool, true, false, _||_, _&&_, not}
+use mathlib.Core.Bool.{Bool, true, false, _||_, _&&_, not, true≢false}
 use mathlib.Core.List.{List, [], _∷_}
 use Prim.Native.Nat.{ℕ, _+_, _*_, _%_, _≤_, _<_}
 use native.Mathlib.Omega.{arith}
@@ -14,7 +14,8 @@ use Rattle.tree.specs.Table.{none, nodes, nextSibling}
 use Rattle.tree.specs.Forest.{treeOf, size, preorder}
 use Rattle.tree.specs.WellFormed.{badLength, badEntry, rootHasSibling, namedTwice, notReached, Passed}
 use Rattle.tree.proofs.Counting.{is-same, is-cases, All, distinct-lacking, covering-length}
-use Rattle.tree.proofs.Tests.{true-false, true-or-false, or-false-left, or-false-right, or-false, any-false, all-any, all-at, upTo-all, all-upTo, member-count, member-none}
+use Rattle.refusal.proofs.Truth.{true-or-false, or-false-left, or-false-right, or-false}
+use Rattle.tree.proofs.Tests.{any-false, all-any, all-at, upTo-all, all-upTo, member-count, member-none}
 use Rattle.tree.proofs.Reading.{size-preorder}
 use Rattle.tree.proofs.Linked.{Names, Linked, tree-below, tree-distinct, tree-size}
 
@@ -50,7 +51,7 @@ bad-false n e h = go (eqb e none) (ltb e n) refl refl h
     go : (a b : Bool) → eqb e none ≡ a → ltb e n ≡ b → (not a && not b) ≡ false → Names n e
     go true b p q h = inr (eqb-true e none p)
     go false true p q h = inl (ltb-true e n q)
-    go false false p q h = absurd (true-false h)
+    go false false p q h = absurd (true≢false h)
 
 pub names-bad : (n e : ℕ) → Names n e → bad n e ≡ false
 names-bad n e h = go (eqb e none) (ltb e n) refl refl h
@@ -58,7 +59,7 @@ names-bad n e h = go (eqb e none) (ltb e n) refl refl h
     go : (a b : Bool) → eqb e none ≡ a → ltb e n ≡ b → Names n e → (not a && not b) ≡ false
     go true b p q h = refl
     go false true p q h = refl
-    go false false p q (inl h) = absurd (true-false (sym (lt-ltb e n h) ∙ q))
+    go false false p q (inl h) = absurd (true≢false (sym (lt-ltb e n h) ∙ q))
     go false false p q (inr h) = absurd (eqb-false e none p h)
 
 pub entries-named : (t : List ℕ) → badEntry t ≡ false → All (Names (nodes t)) t

@@ -16,7 +16,7 @@ use Rattle.tree.specs.Forest.{treeOf}
 use Rattle.tree.specs.WellFormed.{tableConditions, tableNumber}
 use Rattle.tree.specs.Operations.{mirror, mirrored, mirrorNumber, Mirror, numberFrom, renumbered, oldNumbers, renumberNumber, Renumber}
 use Rattle.tree.specs.Steps.{Numbered}
-use Rattle.tree.proofs.Tests.{or-false, or-true}
+use Rattle.refusal.proofs.Truth.{or-false, or-true}
 use Rattle.tree.proofs.Reading.{size-preorder}
 use Rattle.tree.proofs.Stands.{accepted-numbers, accepted-length, accepted-size}
 use Rattle.tree.proofs.TableOf.{length-tableOf}

@@ -12,7 +12,8 @@ use Rattle.tree.specs.Forest.{Forest, nil, node, forest, treeOf, preorde
 use Rattle.tree.specs.Levels.{childrenOf, beside, levels, together, levelIn, level}
 use Rattle.tree.specs.WellFormed.{tableNumber}
 use Rattle.tree.proofs.Counting.{is-same, count-append}
-use Rattle.tree.proofs.Tests.{true-or-false, member-count, member-none, count-member, none-member, member-append, member-all}
+use Rattle.refusal.proofs.Truth.{true-or-false}
+use Rattle.tree.proofs.Tests.{member-count, member-none, count-member, none-member, member-append, member-all}
 use Rattle.tree.proofs.Parts.{Part, whole, in-children, in-siblings, part-count}
 use Rattle.tree.proofs.Stands.{accepted-numbers}
 use Rattle.tree.proofs.Walked.{oneDown, levels-down}

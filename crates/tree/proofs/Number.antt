@@ -11,7 +11,7 @@ use Rattle.refusal.proofs.Laws.{NoneHolds, first-none, none-first}
 use Rattle.tree.specs.Table.{nodes}
 use Rattle.tree.specs.Forest.{treeOf, size}
 use Rattle.tree.specs.WellFormed.{badLength, badEntry, rootHasSibling, namedTwice, notReached, tableConditions, tableNumber, Passed}
-use Rattle.tree.proofs.Tests.{true-or-false}
+use Rattle.refusal.proofs.Truth.{true-or-false}
 use Rattle.tree.proofs.Accepted.{linked, good-length, reached-size, size-reached}
 
 -- accepted exactly when no condition holds

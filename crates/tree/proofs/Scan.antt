@@ -2,7 +2,7 @@
 -- Assumes nothing.
 use mathlib.Core.Path.{_≡_, refl, sym, ap, _∙_, subst}
 use mathlib.Core.Logic.{inl, inr, ⊎-elim}
-use mathlib.Core.Bool.{true, false, not}
+use mathlib.Core.Bool.{true, false, not, true≢false}
 use mathlib.Core.List.{List, [], _∷_, _++_}
 use Prim.Native.Nat.{ℕ, zero, suc, _+_, _-_, _*_, _≤_, _<_, min}
 use native.Mathlib.Nat.{not-suc-le-zero, le-of-suc-le-suc}
@@ -17,7 +17,8 @@ use Rattle.tree.specs.Table.{none, nodes}
 use Rattle.tree.specs.WellFormed.{badLength, badEntry, namedTwice}
 use Rattle.tree.specs.Steps.{Unmarked}
 use Rattle.tree.proofs.Counting.{is-other, is-cases, count-append, All, all-append, sumBelow, sumBelow-add, sumBelow-zero, sumBelow-cong, sumBelow-term, sumBelow-single}
-use Rattle.tree.proofs.Tests.{true-false, true-or-false, all-at}
+use Rattle.refusal.proofs.Truth.{true-or-false}
+use Rattle.tree.proofs.Tests.{all-at}
 use Rattle.tree.proofs.Linked.{Names}
 use Rattle.tree.proofs.Accepted.{good-length, entries-named, named-entries, once-named, named-once}
 
@@ -146,7 +147,7 @@ module _ (t named : List ℕ) (repeats i : ℕ) (ok : badLength t ≡ false) (S 
   pub scan-repeated : not (eqb repeats 0) ≡ namedTwice t
   scan-repeated =
       ⊎-elim (λ e.
-      ap not (ne-eqb repeats 0 (λ z. true-false (sym e ∙ once-named t some (λ w h. omega (
+      ap not (ne-eqb repeats 0 (λ z. true≢false (sym e ∙ once-named t some (λ w h. omega (
         arith,
         ap (count w) whole,
         S .sum,

@@ -1,7 +1,7 @@
 -- A test that some element of a list passes, the same said of every element, and the members of a list of numbers. Assumes nothing.
-use mathlib.Core.Path.{_≡_, refl, sym, ap, ap₂, _∙_, subst}
-use mathlib.Core.Logic.{_⊎_, inl, inr, ⊎-elim}
-use mathlib.Core.Bool.{Bool, true, false, _||_}
+use mathlib.Core.Path.{_≡_, refl, sym, ap, _∙_, subst}
+use mathlib.Core.Logic.{_⊎_, ⊎-elim}
+use mathlib.Core.Bool.{Bool, true, false, _||_, true≢false}
 use mathlib.Core.List.{List, [], _∷_, _++_}
 use Prim.Native.Nat.{ℕ, zero, suc, _≤_, _<_}
 use native.Mathlib.Nat.{not-suc-le-zero, le-of-suc-le-suc}
@@ -9,33 +9,9 @@ use native.Mathlib.Omega.{arith}
 use lib.Dec.{eqb}
 use lib.ListN.{length, getD}
 use borrow.Author.Tests.{eq-eqb, eqb-true}
+use Rattle.refusal.proofs.Truth.{true-or-false, or-false-left, or-false-right, or-false}
 use Rattle.tree.specs.Numbers.{count, any, member, upTo}
 use Rattle.tree.proofs.Counting.{All, all-append, all-left, all-right, is-same, is-cases}
-
--- ---- or, and
-
-pub true-false : true ≡ false → ⊥
-true-false e = subst (λ (b : Bool). elim b as (λ _. Type 0) [ true ↦ Unit {0} | false ↦ ⊥ ]) e tt
-
-pub or-false-left : (a b : Bool) → (a || b) ≡ false → a ≡ false
-or-false-left false b e = refl
-or-false-left true b e = e
-
-pub or-false-right : (a b : Bool) → (a || b) ≡ false → b ≡ false
-or-false-right false b e = e
-or-false-right true b e = absurd (true-false e)
-
-pub or-false : {a b : Bool} → a ≡ false → b ≡ false → (a || b) ≡ false
-or-false p q = ap₂ _||_ p q
-
-pub or-true : {a b : Bool} → (a ≡ true) ⊎ (b ≡ true) → (a || b) ≡ true
-or-true {b = b} (inl e) = ap (λ (x : Bool). x || b) e
-or-true {a = true} (inr e) = refl
-or-true {a = false} (inr e) = e
-
-pub true-or-false : (b : Bool) → (b ≡ true) ⊎ (b ≡ false)
-true-or-false true = inl refl
-true-or-false false = inr refl
 
 -- ---- no element passes
 
@@ -78,7 +54,7 @@ all-upTo P (suc n) h = all-append P (upTo n) (n ∷ []) (all-upTo P n (λ v k. h
 -- ---- members
 
 pub member-count : (x : ℕ) (l : List ℕ) → member x l ≡ true → 1 ≤ count x l
-member-count x [] e = absurd (true-false (sym e))
+member-count x [] e = absurd (true≢false (sym e))
 member-count x (y ∷ l) e =
     ⊎-elim (λ h. omega (arith, is-same x y (eqb-true x y h)))
     (λ h. omega (arith, member-count x l (sym (ap (λ (b : Bool). b || member x l) h) ∙ e)))
@@ -87,7 +63,7 @@ member-count x (y ∷ l) e =
 pub member-none : (x : ℕ) (l : List ℕ) → member x l ≡ false → count x l ≡ 0
 member-none x [] e = refl
 member-none x (y ∷ l) e =
-    ⊎-elim (λ s. absurd (true-false (sym (eq-eqb x y (s .0)) ∙ or-false-left (eqb x y) (member x l) e)))
+    ⊎-elim (λ s. absurd (true≢false (sym (eq-eqb x y (s .0)) ∙ or-false-left (eqb x y) (member x l) e)))
     (λ s. omega (arith, s .1, member-none x l (or-false-right (eqb x y) (member x l) e)))
     (is-cases x y)
 
@@ -107,7 +83,7 @@ member-append x (y ∷ l) m = ap (λ (b : Bool). eqb x y || b) (member-append x 
 
 -- what holds of every element holds of a member
 pub member-all : (P : ℕ → Type 0) (x : ℕ) (l : List ℕ) → All P l → member x l ≡ true → P x
-member-all P x [] a e = absurd (true-false (sym e))
+member-all P x [] a e = absurd (true≢false (sym e))
 member-all P x (y ∷ l) a e =
     ⊎-elim (λ h. subst P (sym (eqb-true x y h)) (a .0))
     (λ h. member-all P x l (a .1) (sym (ap (λ (b : Bool). b || member x l) h) ∙ e))

@@ -13,7 +13,7 @@ use Rattle.tree.specs.Table.{none, nodes, nextSibling}
 use Rattle.tree.specs.Forest.{treeOf, preorder}
 use Rattle.tree.specs.WellFormed.{badLength, badEntry, rootHasSibling, Passed, tableNumber}
 use Rattle.tree.specs.Steps.{Visited, Judged}
-use Rattle.tree.proofs.Tests.{true-or-false}
+use Rattle.refusal.proofs.Truth.{true-or-false}
 use Rattle.tree.proofs.Scan.{getD-any}
 use Rattle.tree.proofs.Linked.{tree-size}
 use Rattle.tree.proofs.Accepted.{good-length, length-good, alone-root, root-alone, linked}

@@ -1,4 +1,5 @@
 -- `tree::judge::scan` meets its contract: each turn takes one entry. Assumes nothing.
+use mathlib.Core.Bool.{true≢false}
 use mathlib.Core.Path.{_≡_, refl, sym, _∙_, subst₂}
 use mathlib.Core.Logic.{⊎-elim}
 use mathlib.Core.List.{List}
@@ -8,7 +9,6 @@ use lib.ListN.{length, getD, set, length-set}
 use borrow.Author.Needs.{needs}
 use Rattle.tree.specs.Table.{nodes}
 use Rattle.tree.proofs.Accepted.{good-length}
-use Rattle.tree.proofs.Tests.{true-false}
 use Rattle.tree.proofs.Scan.{Scanning, some-marks, scan-start, scan-skip, scan-mark, scan-bad, scan-good, scan-repeated}
 use Rattle.tree.proofs.judge.scan.Statement.{statement}
 use Rattle.tree.proofs.judge.scan.Tie as tie
@@ -50,7 +50,7 @@ returns c =
     let p = c .before .before .before in
     record {
       bad = scan-bad (table (p .before .before)) (p .before .loop .i) (p .loop-test .taken) (c .before .if1 .taken) (c .if2 .taken);
-      repeated = λ e. absurd (true-false e);
+      repeated = λ e. absurd (true≢false e);
     }
 
 -- past the test that the entry names a node
