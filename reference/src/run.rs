@@ -102,7 +102,7 @@ impl Run {
 }
 
 /// Prints a line even from a test that passes.
-fn say(line: std::fmt::Arguments) {
+pub fn say(line: std::fmt::Arguments) {
     // A closed output is no reason to fail a comparison.
     let _ = writeln!(std::io::stdout().lock(), "{line}");
 }

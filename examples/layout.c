@@ -1,0 +1,28 @@
+/*
+ * Lays a tree out and prints each node's number, level and place. From the repository's root:
+ *
+ *     gcc -std=c11 -Wall -Wextra -Werror -Iinclude examples/layout.c target/staticlib/libexports.a -o layout
+ */
+
+#include "hiwenoka.h"
+#include <stdio.h>
+
+enum { NONE = 65535, N = 5 };
+
+int main(void)
+{
+    /* The root 0 has the children 1 and 4, and node 1 has the children 2 and 3. */
+    const uint16_t table[2 * N] = {1, NONE, 2, 4, NONE, 3, NONE, NONE, NONE, NONE};
+    int32_t places[N], work[16 * N], least, greatest;
+    uint16_t levels[N], record[2 * N], nodes, level_count, pairs;
+    uint16_t number = hiwenoka_layout(table, 2 * N, 3, places, N, levels, N, record, 2 * N,
+                                      work, 16 * N, &nodes, &level_count, &least, &greatest, &pairs);
+    if (number != 0) {
+        printf("refused %d\n", number);
+        return 1;
+    }
+    for (int node = 0; node < nodes; node++) {
+        printf("%d %d %d\n", node, levels[node], places[node]);
+    }
+    return 0;
+}
