@@ -1,7 +1,8 @@
 //! Links the library's archive into the comparisons and the benchmarks that call it.
 //!
 //! The archive is `../target/staticlib/libexports.a`; the environment variable `HIWENOKA_LIB_DIR`
-//! names another folder. The package's own library and its unit tests do not need it.
+//! names another folder. The package's own library and its unit tests do not need it. Tests that
+//! link it into a program of their own have its path as `HIWENOKA_ARCHIVE`.
 
 use std::env;
 use std::path::PathBuf;
@@ -18,6 +19,7 @@ fn main() {
     let archive = folder.join("libexports.a");
     let archive = archive.display();
     println!("cargo:rerun-if-changed={archive}");
+    println!("cargo:rustc-env=HIWENOKA_ARCHIVE={archive}");
     println!("cargo:rustc-link-arg-tests={archive}");
     println!("cargo:rustc-link-arg-bin=bench_table={archive}");
     println!("cargo:rustc-link-arg-bin=bench_sheet={archive}");

@@ -1,0 +1,186 @@
+#include "inputs.h"
+#include "random.h"
+#include <string.h>
+
+enum { BLOCK_WORDS = 256, BLOCK_ROWS = 63, SHAPES = 8 };
+
+/* The parent of a node among those before it. */
+static size_t parent_of(size_t node, size_t shape)
+{
+    switch (shape) {
+    case 0: /* a chain */
+        return node - 1;
+    case 1: /* a star */
+        return 0;
+    case 2: /* two children each */
+        return (node - 1) / 2;
+    case 3: /* broad families */
+        return (node - 1) / 20;
+    case 4: /* a path with three leaves at each of its nodes */
+        return (node - 1) / 4 * 4;
+    case 5: /* a path with a chain at each of its nodes */
+        return node % 32 == 0 ? node - 32 : node - 1;
+    case 6: /* one of the latest few */
+        return node - 1 - below(node < 4 ? node : 4);
+    default:
+        return below(node);
+    }
+}
+
+void make_tree(uint16_t *table, size_t nodes)
+{
+    uint16_t numbers[MOST_NODES + 1], last[MOST_NODES + 1];
+    size_t shape = below(SHAPES), first_in = below(3);
+    for (size_t node = 0; node < nodes; node++) {
+        size_t other = node == 0 ? 0 : 1 + below(node);
+        numbers[node] = numbers[other];
+        numbers[other] = (uint16_t)node;
+        table[2 * node] = table[2 * node + 1] = NONE;
+    }
+    for (size_t node = 1; node < nodes; node++) {
+        uint16_t parent = numbers[parent_of(node, shape)], child = numbers[node];
+        if (table[2 * parent] == NONE) {
+            table[2 * parent] = last[parent] = child;
+        } else if (first_in > below(2)) {
+            table[2 * child + 1] = table[2 * parent];
+            table[2 * parent] = child;
+        } else {
+            table[2 * last[parent] + 1] = child;
+            last[parent] = child;
+        }
+    }
+}
+
+/* An entry other than node 0's next sibling that names a node, or that names none. */
+static size_t some_entry(const uint16_t *table, size_t nodes, int naming)
+{
+    size_t entry;
+    do {
+        entry = below(2 * nodes);
+    } while (entry == 1 || (table[entry] != NONE) != naming);
+    return entry;
+}
+
+void damage_tree(uint16_t *table, size_t nodes, unsigned number)
+{
+    switch (number) {
+    case 2:
+        table[below(2 * nodes)] = (uint16_t)(nodes + below(NONE - nodes));
+        break;
+    case 3:
+        table[1] = (uint16_t)below(nodes);
+        break;
+    case 4: /* every other node is named already */
+        table[some_entry(table, nodes, 0)] = (uint16_t)below(nodes);
+        break;
+    case 5: {
+        size_t entry = some_entry(table, nodes, 1);
+        uint16_t cut = table[entry], under = cut;
+        table[entry] = NONE;
+        if (below(2) == 0) { /* and joined to a ring */
+            while (table[2 * under] != NONE) {
+                under = table[2 * under];
+            }
+            table[2 * under] = cut;
+        }
+        break;
+    }
+    }
+}
+
+void change_entry(uint16_t *table, size_t nodes)
+{
+    table[below(2 * nodes)] = (uint16_t)(below(8) == 0 ? random_bits() : below(nodes));
+}
+
+static uint16_t get_word(const uint8_t *file, size_t block, size_t word)
+{
+    const uint8_t *bytes = file + BLOCK_BYTES * block + 2 * word;
+    return (uint16_t)(bytes[0] | bytes[1] << 8);
+}
+
+static void put_word(uint8_t *file, size_t block, size_t word, size_t value)
+{
+    uint8_t *bytes = file + BLOCK_BYTES * block + 2 * word;
+    bytes[0] = (uint8_t)value;
+    bytes[1] = (uint8_t)(value >> 8);
+}
+
+/* Makes a block's sum zero by its last word. */
+static void close_block(uint8_t *file, size_t block)
+{
+    size_t sum = 0;
+    for (size_t word = 0; word < BLOCK_WORDS - 1; word++) {
+        sum += get_word(file, block, word);
+    }
+    put_word(file, block, BLOCK_WORDS - 1, 0 - sum);
+}
+
+size_t make_sheet(uint8_t *file, const uint16_t *table, size_t nodes, uint16_t separation)
+{
+    size_t blocks = 1 + (nodes + BLOCK_ROWS - 1) / BLOCK_ROWS;
+    memset(file, 0, blocks * BLOCK_BYTES);
+    put_word(file, 0, 2, nodes);
+    put_word(file, 0, 3, separation);
+    for (size_t node = 0; node < nodes; node++) {
+        size_t block = 1 + node / BLOCK_ROWS, row = node % BLOCK_ROWS;
+        put_word(file, block, 0, block);
+        put_word(file, block, 1, row + 1);
+        put_word(file, block, 2 + 4 * row, table[2 * node]);
+        put_word(file, block, 3 + 4 * row, table[2 * node + 1]);
+        put_word(file, block, 4 + 4 * row, random_bits());
+        put_word(file, block, 5 + 4 * row, random_bits());
+    }
+    for (size_t block = 0; block < blocks; block++) {
+        close_block(file, block);
+    }
+    return blocks * BLOCK_BYTES;
+}
+
+size_t damage_sheet(uint8_t *file, size_t bytes, unsigned number)
+{
+    size_t blocks = bytes / BLOCK_BYTES, block = below(blocks);
+    switch (number) {
+    case 9: {
+        size_t lengths[] = {0, 1, BLOCK_BYTES, bytes - 1, bytes + 1, MOST_FILE + BLOCK_BYTES};
+        return lengths[below(6)];
+    }
+    case 10:
+        file[below(bytes)] ^= (uint8_t)(1 << below(8));
+        return bytes;
+    case 11:
+        put_word(file, block, 0, block + 1 + below(65535));
+        close_block(file, block);
+        return bytes;
+    default:
+        switch (below(6)) {
+        case 0: /* a count of nodes */
+            put_word(file, 0, 2, below(2) == 0 ? 0 : MOST_NODES + 1 + below(64511));
+            break;
+        case 1: /* a separation */
+            put_word(file, 0, 3, below(2) == 0 ? 0 : 1025 + below(64511));
+            break;
+        case 2: /* a word of block 0 that is fixed */
+            put_word(file, 0, 4 + below(251), 1 + below(65535));
+            break;
+        case 3: /* a count of rows */
+            put_word(file, blocks - 1, 1, 64 + below(65472));
+            close_block(file, blocks - 1);
+            break;
+        case 4: /* the word before the closing one */
+            put_word(file, blocks - 1, 254, 1 + below(65535));
+            close_block(file, blocks - 1);
+            break;
+        case 5: /* a block too many, or too few for the nodes */
+            if (bytes == MOST_FILE) {
+                return bytes - BLOCK_BYTES;
+            }
+            memcpy(file + bytes, file + bytes - BLOCK_BYTES, BLOCK_BYTES);
+            put_word(file, blocks, 0, blocks);
+            close_block(file, blocks);
+            return bytes + BLOCK_BYTES;
+        }
+        close_block(file, 0);
+        return bytes;
+    }
+}

@@ -1,0 +1,28 @@
+/* Tables and sheet files, well-formed and damaged. */
+
+#ifndef INPUTS_H
+#define INPUTS_H
+
+#include <stddef.h>
+#include <stdint.h>
+
+enum { NONE = 65535, MOST_NODES = 1024, BLOCK_BYTES = 512, MOST_FILE = 18 * BLOCK_BYTES };
+
+/* A well-formed table of so many nodes, of some shape, numbered at random but for the root. */
+void make_tree(uint16_t *table, size_t nodes);
+
+/* Damages a well-formed table so that this condition, 2 to 5, is the first that holds. 5 needs two
+   nodes. */
+void damage_tree(uint16_t *table, size_t nodes, unsigned number);
+
+/* Replaces an entry by any number or, mostly, by one that names a node. */
+void change_entry(uint16_t *table, size_t nodes);
+
+/* Writes the sheet file of a table, with any tape numbers. Its length. */
+size_t make_sheet(uint8_t *file, const uint16_t *table, size_t nodes, uint16_t separation);
+
+/* Damages a sheet file so that this condition, 9 to 12, is the first that holds. Its new length,
+   at most MOST_FILE + BLOCK_BYTES. */
+size_t damage_sheet(uint8_t *file, size_t bytes, unsigned number);
+
+#endif

@@ -1,0 +1,288 @@
+/*
+ * Calls the library's five functions on very many inputs, every slice and every result lent from
+ * memory of exactly its length.
+ *
+ *     memory guarded ROUNDS SEED   each input twice: slices end at a page that cannot be accessed,
+ *                                  then start right after one; inputs lie on read-only pages
+ *     memory apart ROUNDS SEED     each slice is a block of its own, for valgrind's memcheck; what
+ *                                  is to be written is not initialised
+ */
+
+#include "hiwenoka.h"
+#include "inputs.h"
+#include "lent.h"
+#include "random.h"
+#include <stdio.h>
+#include <stdlib.h>
+#include <string.h>
+
+enum operation { CHECK, LAYOUT, MIRROR, RENUMBER, READ, OPERATIONS };
+
+static const char *const names[OPERATIONS] = {"check_table", "layout", "mirror", "renumber",
+                                              "read_sheet"};
+
+/* The numbers that each operation can give, as bits. */
+static const unsigned possible[OPERATIONS] = {0x3f, 0x1ff, 0xbf, 0xbf, 0x1e81};
+
+/* The number that a call must give is not known. */
+enum { ANY = 13 };
+
+static unsigned long given[OPERATIONS][ANY];
+static enum placing placing;
+
+/* Holds a call's number against the one it must give, and its table or file against the original. */
+static void expect_number(enum operation operation, const struct lent *input, unsigned number,
+                          unsigned wanted)
+{
+    expect(number < ANY && (number == wanted || wanted == ANY), names[operation]);
+    given[operation][number]++;
+    expect_written(input, 0);
+}
+
+/* A result field: written, and 0 after a refusal. */
+static void expect_field(const struct lent *field, unsigned number)
+{
+    expect_written(field, field->bytes);
+    if (number != 0) {
+        expect_zero(field, field->bytes);
+    }
+}
+
+static void check_table(const uint16_t *entries, size_t len, unsigned wanted)
+{
+    take_back(placing);
+    struct lent table = lend_input(entries, 2 * len), nodes = lend_output(2);
+    uint16_t number = hiwenoka_check_table(table.start, len, nodes.start);
+    expect_number(CHECK, &table, number, wanted);
+    expect_field(&nodes, number);
+    expect(number != 0 || *(uint16_t *)nodes.start == len / 2, "n is half the length");
+}
+
+/* Counts of entries. */
+struct lengths {
+    size_t places, levels, record, work;
+};
+
+static void layout(const uint16_t *entries, size_t len, uint16_t separation,
+                   struct lengths lengths, unsigned wanted)
+{
+    take_back(placing);
+    struct lent table = lend_input(entries, 2 * len);
+    struct lent places = lend_output(4 * lengths.places), levels = lend_output(2 * lengths.levels);
+    struct lent record = lend_output(2 * lengths.record), work = lend_output(4 * lengths.work);
+    struct lent nodes = lend_output(2), level_count = lend_output(2), pairs = lend_output(2);
+    struct lent least = lend_output(4), greatest = lend_output(4);
+    uint16_t number = hiwenoka_layout(table.start, len, separation, places.start, lengths.places,
+                                      levels.start, lengths.levels, record.start, lengths.record,
+                                      work.start, lengths.work, nodes.start, level_count.start,
+                                      least.start, greatest.start, pairs.start);
+    expect_number(LAYOUT, &table, number, wanted);
+    expect_field(&nodes, number);
+    expect_field(&level_count, number);
+    expect_field(&least, number);
+    expect_field(&greatest, number);
+    expect_field(&pairs, number);
+    size_t n = *(uint16_t *)nodes.start, pair_count = *(uint16_t *)pairs.start;
+    expect(number != 0 || n == len / 2, "n is half the length");
+    expect(pair_count + *(uint16_t *)level_count.start == n, "as many pairs as nodes less levels");
+    expect_written(&places, 4 * n);
+    expect_written(&levels, 2 * n);
+    expect_written(&record, 4 * pair_count);
+    expect_written(&work, 64 * n);
+    expect_zero(&work, 64 * n);
+}
+
+static void mirror(const uint16_t *entries, size_t len, size_t out_len, unsigned wanted)
+{
+    take_back(placing);
+    struct lent table = lend_input(entries, 2 * len), out = lend_output(2 * out_len);
+    uint16_t number = hiwenoka_mirror(table.start, len, out.start, out_len);
+    expect_number(MIRROR, &table, number, wanted);
+    expect_written(&out, number == 0 ? 2 * len : 0);
+}
+
+static void renumber(const uint16_t *entries, size_t len, size_t out_len, size_t map_len,
+                     unsigned wanted)
+{
+    take_back(placing);
+    struct lent table = lend_input(entries, 2 * len);
+    struct lent out = lend_output(2 * out_len), map = lend_output(2 * map_len);
+    uint16_t number = hiwenoka_renumber(table.start, len, out.start, out_len, map.start, map_len);
+    expect_number(RENUMBER, &table, number, wanted);
+    expect_written(&out, number == 0 ? 2 * len : 0);
+    expect_written(&map, number == 0 ? len : 0);
+}
+
+static void read_sheet(const uint8_t *bytes, size_t len, size_t table_len, size_t tapes_len,
+                       unsigned wanted)
+{
+    take_back(placing);
+    struct lent file = lend_input(bytes, len);
+    struct lent table = lend_output(2 * table_len), tapes = lend_output(2 * tapes_len);
+    struct lent nodes = lend_output(2), separation = lend_output(2);
+    uint16_t number = hiwenoka_read_sheet(file.start, len, table.start, table_len, tapes.start,
+                                          tapes_len, nodes.start, separation.start);
+    expect_number(READ, &file, number, wanted);
+    expect_field(&nodes, number);
+    expect_field(&separation, number);
+    size_t n = *(uint16_t *)nodes.start;
+    expect_written(&table, 4 * n);
+    expect_written(&tapes, 4 * n);
+}
+
+/* Often a small one. */
+static uint16_t some_separation(void)
+{
+    return (uint16_t)(1 + below(below(2) == 0 ? 4 : 1024));
+}
+
+/* Just long enough for so many nodes. */
+static struct lengths exact(size_t nodes)
+{
+    return (struct lengths){nodes, nodes, 2 * nodes, 16 * nodes};
+}
+
+/* The four operations on a table, with slices that are just long enough. */
+static void every_operation(const uint16_t *table, size_t len, unsigned wanted)
+{
+    size_t nodes = (len + 1) / 2;
+    check_table(table, len, wanted);
+    layout(table, len, some_separation(), exact(nodes), wanted);
+    mirror(table, len, 2 * nodes, wanted);
+    renumber(table, len, 2 * nodes, nodes, wanted);
+}
+
+/* Lengths that are wrong for any table. */
+static void wrong_lengths(void)
+{
+    uint16_t table[2 * (MOST_NODES + 1)];
+    make_tree(table, MOST_NODES + 1);
+    size_t lengths[] = {0, 1, 3, 2047, 2049, 2050};
+    every_operation(table, lengths[below(6)], 1);
+}
+
+static void damaged_tables(const uint16_t *table, size_t nodes)
+{
+    uint16_t damaged[2 * MOST_NODES];
+    for (unsigned number = 2; number <= (nodes == 1 ? 4 : 5); number++) {
+        memcpy(damaged, table, 4 * nodes);
+        damage_tree(damaged, nodes, number);
+        every_operation(damaged, 2 * nodes, number);
+    }
+    memcpy(damaged, table, 4 * nodes);
+    for (size_t count = 1 + below(4); count > 0; count--) {
+        change_entry(damaged, nodes);
+    }
+    every_operation(damaged, 2 * nodes, ANY);
+}
+
+/* Slices one too short, empty and longer than needed. */
+static void other_lengths(const uint16_t *table, size_t nodes)
+{
+    size_t len = 2 * nodes, shorter = below(2) == 0 ? 1 : nodes;
+    uint16_t separation = some_separation();
+    for (unsigned slice = 0; slice < 4; slice++) {
+        struct lengths lengths = exact(nodes);
+        lengths.places -= slice == 0 ? shorter : 0;
+        lengths.levels -= slice == 1 ? shorter : 0;
+        lengths.record -= slice == 2 ? shorter : 0;
+        lengths.work -= slice == 3 ? shorter : 0;
+        layout(table, len, separation, lengths, slice == 3 ? 8 : 7);
+        layout(table, len, (uint16_t)(slice == 0 ? 0 : 1025 + below(64511)), lengths, 6);
+    }
+    layout(table, len, separation, (struct lengths){0, 0, 0, 0}, 7);
+    struct lengths longer = exact(nodes);
+    longer.places += 1 + below(9);
+    longer.levels += 1 + below(9);
+    longer.record += 1 + below(9);
+    longer.work += 1 + below(33);
+    layout(table, len, separation, longer, 0);
+    mirror(table, len, len - shorter, 7);
+    mirror(table, len, len + 1 + below(9), 0);
+    renumber(table, len, len - shorter, nodes, 7);
+    renumber(table, len, len, nodes - shorter, 7);
+    renumber(table, len, len + 1 + below(9), nodes + 1 + below(9), 0);
+}
+
+static void sheets(const uint16_t *table, size_t nodes)
+{
+    uint8_t file[MOST_FILE + BLOCK_BYTES] = {0}, damaged[MOST_FILE + BLOCK_BYTES];
+    size_t bytes = make_sheet(file, table, nodes, some_separation());
+    size_t len = 2 * nodes, shorter = below(2) == 0 ? 1 : len;
+    read_sheet(file, bytes, len, len, 0);
+    read_sheet(file, bytes, len - shorter, len, 7);
+    read_sheet(file, bytes, len, len - shorter, 7);
+    read_sheet(file, bytes, len + 1 + below(9), len + 1 + below(9), 0);
+    for (unsigned number = 9; number <= 12; number++) {
+        memcpy(damaged, file, sizeof file);
+        size_t damaged_bytes = damage_sheet(damaged, bytes, number);
+        read_sheet(damaged, damaged_bytes, len, len, number);
+    }
+}
+
+/* Small trees often, and those at the edges of a block and of the whole range. */
+static size_t some_size(void)
+{
+    static const size_t edges[] = {1, 2, 63, 64, 65, 126, 127, 1008, 1009, 1023, 1024};
+    switch (below(4)) {
+    case 0:
+        return edges[below(11)];
+    case 1:
+        return 1 + below(MOST_NODES);
+    default:
+        return 1 + below(48);
+    }
+}
+
+static void one_round(uint64_t seed)
+{
+    uint16_t table[2 * MOST_NODES];
+    seed_random(seed);
+    size_t nodes = some_size();
+    make_tree(table, nodes);
+    every_operation(table, 2 * nodes, 0);
+    other_lengths(table, nodes);
+    wrong_lengths();
+    damaged_tables(table, nodes);
+    sheets(table, nodes);
+}
+
+/* Every number that an operation can give must have been given, and no other. */
+static void report(void)
+{
+    for (int operation = 0; operation < OPERATIONS; operation++) {
+        unsigned seen = 0;
+        printf("%s:", names[operation]);
+        for (unsigned number = 0; number < ANY; number++) {
+            if (given[operation][number] != 0) {
+                seen |= 1u << number;
+                printf(" %lu gave %u,", given[operation][number], number);
+            }
+        }
+        printf(" no other\n");
+        expect(seen == possible[operation], "every number was given");
+    }
+}
+
+int main(int count, char **words)
+{
+    if (count != 4) {
+        fprintf(stderr, "usage: memory guarded|apart ROUNDS SEED\n");
+        return 2;
+    }
+    int guarded = strcmp(words[1], "guarded") == 0;
+    uint64_t rounds = strtoull(words[2], NULL, 0), seed = strtoull(words[3], NULL, 0);
+    seed_random(seed);
+    take_back(guarded ? AT_END : APART);
+    for (uint64_t round = 0; round < rounds; round++) {
+        placing = guarded ? AT_END : APART;
+        one_round(seed + round);
+        if (guarded) {
+            placing = AT_START;
+            one_round(seed + round);
+        }
+    }
+    take_back(placing);
+    report();
+    return 0;
+}
