@@ -2,7 +2,7 @@
 #include "random.h"
 #include <string.h>
 
-enum { BLOCK_WORDS = 256, BLOCK_ROWS = 63, SHAPES = 8 };
+enum { SHAPES = 8 };
 
 /* The parent of a node among those before it. */
 static size_t parent_of(size_t node, size_t shape)
@@ -93,21 +93,20 @@ void change_entry(uint16_t *table, size_t nodes)
     table[below(2 * nodes)] = (uint16_t)(below(8) == 0 ? random_bits() : below(nodes));
 }
 
-static uint16_t get_word(const uint8_t *file, size_t block, size_t word)
+uint16_t get_word(const uint8_t *file, size_t block, size_t word)
 {
     const uint8_t *bytes = file + BLOCK_BYTES * block + 2 * word;
     return (uint16_t)(bytes[0] | bytes[1] << 8);
 }
 
-static void put_word(uint8_t *file, size_t block, size_t word, size_t value)
+void put_word(uint8_t *file, size_t block, size_t word, size_t value)
 {
     uint8_t *bytes = file + BLOCK_BYTES * block + 2 * word;
     bytes[0] = (uint8_t)value;
     bytes[1] = (uint8_t)(value >> 8);
 }
 
-/* Makes a block's sum zero by its last word. */
-static void close_block(uint8_t *file, size_t block)
+void close_block(uint8_t *file, size_t block)
 {
     size_t sum = 0;
     for (size_t word = 0; word < BLOCK_WORDS - 1; word++) {

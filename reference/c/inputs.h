@@ -6,7 +6,8 @@
 #include <stddef.h>
 #include <stdint.h>
 
-enum { NONE = 65535, MOST_NODES = 1024, BLOCK_BYTES = 512, MOST_FILE = 18 * BLOCK_BYTES };
+enum { NONE = 65535, MOST_NODES = 1024 };
+enum { BLOCK_WORDS = 256, BLOCK_BYTES = 512, BLOCK_ROWS = 63, MOST_FILE = 18 * BLOCK_BYTES };
 
 /* A well-formed table of so many nodes, of some shape, numbered at random but for the root. */
 void make_tree(uint16_t *table, size_t nodes);
@@ -17,6 +18,13 @@ void damage_tree(uint16_t *table, size_t nodes, unsigned number);
 
 /* Replaces an entry by any number or, mostly, by one that names a node. */
 void change_entry(uint16_t *table, size_t nodes);
+
+/* A word of a file's block. */
+uint16_t get_word(const uint8_t *file, size_t block, size_t word);
+void put_word(uint8_t *file, size_t block, size_t word, size_t value);
+
+/* Makes a block's sum zero by its last word. */
+void close_block(uint8_t *file, size_t block);
 
 /* Writes the sheet file of a table, with any tape numbers. Its length. */
 size_t make_sheet(uint8_t *file, const uint16_t *table, size_t nodes, uint16_t separation);

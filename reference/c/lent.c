@@ -20,7 +20,7 @@ static int lent_count;
 void expect(int holds, const char *what)
 {
     if (!holds) {
-        printf("wrong: %s\n", what);
+        fprintf(stderr, "wrong: %s\n", what);
         exit(1);
     }
 }
@@ -53,7 +53,7 @@ void take_back(enum placing next)
     for (int index = 0; index < lent_count; index++) {
         if (placing == APART) {
             free(lent[index].start);
-        } else {
+        } else if (lent[index].read_only) {
             protect(index, PROT_READ | PROT_WRITE);
         }
     }
@@ -70,6 +70,7 @@ static struct lent *lend(size_t bytes, const unsigned char *before)
     struct lent *next = &lent[lent_count];
     next->bytes = bytes;
     next->before = before;
+    next->read_only = 0;
     switch (placing) {
     case AT_END:
         next->start = room(lent_count) + ROOM - bytes;
@@ -94,6 +95,7 @@ struct lent lend_input(const void *contents, size_t bytes)
     struct lent *next = lend(bytes, contents);
     if (placing != APART) {
         protect(lent_count - 1, PROT_READ);
+        next->read_only = 1;
     }
     return *next;
 }

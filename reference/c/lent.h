@@ -15,6 +15,7 @@ struct lent {
     void *start;
     size_t bytes;
     const unsigned char *before; /* what it held; NULL if nothing was written to it */
+    int read_only;
 };
 
 /* Must be called before anything is lent, and between two calls of the library. */

@@ -30,7 +30,7 @@ enum { ANY = 13 };
 static unsigned long given[OPERATIONS][ANY];
 static enum placing placing;
 
-/* Holds a call's number against the one it must give, and its table or file against the original. */
+/* Holds a call's number against the one it must give, and its table or file against what it was. */
 static void expect_number(enum operation operation, const struct lent *input, unsigned number,
                           unsigned wanted)
 {

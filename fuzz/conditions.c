@@ -1,0 +1,100 @@
+#include "paper.h"
+
+static int names_beyond(const uint16_t *table, size_t len)
+{
+    for (size_t i = 0; i < len; i++) {
+        if (table[i] != NONE && table[i] >= len / 2) {
+            return 1;
+        }
+    }
+    return 0;
+}
+
+static int names_too_often(const uint16_t *table, size_t len)
+{
+    unsigned times[MOST_NODES] = {1}; /* the root may be named by no entry */
+    for (size_t i = 0; i < len; i++) {
+        if (table[i] != NONE && ++times[table[i]] > 1) {
+            return 1;
+        }
+    }
+    return 0;
+}
+
+static int leaves_unreached(const uint16_t *table, size_t len)
+{
+    int reached[MOST_NODES] = {1};
+    uint16_t found[MOST_NODES] = {0};
+    size_t count = 1;
+    for (size_t next = 0; next < count; next++) {
+        for (size_t entry = 0; entry < 2; entry++) {
+            uint16_t node = table[2 * found[next] + entry];
+            if (node != NONE && !reached[node]) {
+                reached[node] = 1;
+                found[count++] = node;
+            }
+        }
+    }
+    return count < len / 2;
+}
+
+unsigned table_number(const uint16_t *table, size_t len)
+{
+    return len % 2 == 1 || len == 0 || len > 2 * MOST_NODES ? 1
+           : names_beyond(table, len)                       ? 2
+           : table[1] != NONE                               ? 3
+           : names_too_often(table, len)                    ? 4
+           : leaves_unreached(table, len)                   ? 5
+                                                            : 0;
+}
+
+/* Whether the file's layout leaves this word open, or it has the value that is fixed. */
+static int fits(const uint8_t *file, size_t blocks, size_t nodes, size_t block, size_t word)
+{
+    size_t rows = block + 1 < blocks ? BLOCK_ROWS : nodes - BLOCK_ROWS * (blocks - 2);
+    size_t value = get_word(file, block, word);
+    if (block == 0) {
+        return word == 0 || word == 2 || word == 3 || word == 255 || value == 0;
+    }
+    if (word == 1) {
+        return value == rows;
+    }
+    return word == 0 || word == 255 || word < 2 + 4 * rows || value == 0;
+}
+
+unsigned sheet_number(const uint8_t *file, size_t bytes, size_t table_len, size_t tapes_len)
+{
+    size_t blocks = bytes / BLOCK_BYTES;
+    if (bytes % BLOCK_BYTES != 0 || bytes < 1024 || bytes > 9216) {
+        return 9;
+    }
+    for (size_t block = 0; block < blocks; block++) {
+        uint32_t sum = 0;
+        for (size_t word = 0; word < BLOCK_WORDS; word++) {
+            sum += get_word(file, block, word);
+        }
+        if (sum % 65536 != 0) {
+            return 10;
+        }
+    }
+    for (size_t block = 0; block < blocks; block++) {
+        if (get_word(file, block, 0) != block) {
+            return 11;
+        }
+    }
+    size_t nodes = get_word(file, 0, 2), separation = get_word(file, 0, 3);
+    if (nodes < 1 || nodes > 1024 || separation < 1 || separation > 1024) {
+        return 12;
+    }
+    if (blocks != 1 + (nodes + BLOCK_ROWS - 1) / BLOCK_ROWS) {
+        return 12;
+    }
+    for (size_t block = 0; block < blocks; block++) {
+        for (size_t word = 0; word < BLOCK_WORDS; word++) {
+            if (!fits(file, blocks, nodes, block, word)) {
+                return 12;
+            }
+        }
+    }
+    return table_len < 2 * nodes || tapes_len < 2 * nodes ? 7 : 0;
+}

@@ -1,0 +1,152 @@
+/* "Where a node stands", step by step. A position is a node's number in the order of Renumber: a
+   subtree's positions follow each other, and so do those of a level in tree order. */
+
+#include "paper.h"
+
+void number_parents_first(const uint16_t *table, uint16_t *order)
+{
+    uint16_t open[2 * MOST_NODES] = {0};
+    size_t open_count = 1, count = 0;
+    while (open_count > 0) {
+        uint16_t node = open[--open_count];
+        order[count++] = node;
+        if (table[2 * node + 1] != NONE) {
+            open[open_count++] = table[2 * node + 1];
+        }
+        if (table[2 * node] != NONE) {
+            open[open_count++] = table[2 * node];
+        }
+    }
+}
+
+static size_t conflicts, widest;
+
+/* By position. */
+static uint16_t node_at[MOST_NODES];
+static size_t end[MOST_NODES]; /* the first position past the subtree */
+static size_t level[MOST_NODES];
+static int32_t place[MOST_NODES];
+static size_t measured[MOST_NODES]; /* the right one of the pair, or 0 */
+
+static size_t family[MOST_NODES]; /* the positions of one node's children */
+
+static void move_right(size_t root, int32_t distance)
+{
+    for (size_t position = root; position < end[root]; position++) {
+        place[position] += distance;
+    }
+}
+
+/* Steps 2 to 4 for child j. right_contour has the last position of each level of those joined, down
+   to the level `joined`. */
+static void join(size_t j, int32_t separation, const size_t *right_contour, size_t joined)
+{
+    size_t left_contour[MOST_NODES], root = family[j], deepest = level[root];
+    for (size_t position = end[root]; position-- > root;) {
+        left_contour[level[position]] = position;
+        deepest = level[position] > deepest ? level[position] : deepest;
+    }
+    move_right(root, place[family[j - 1]] + separation - place[root]);
+    for (size_t walked = level[root]; walked <= deepest && walked <= joined; walked++) {
+        size_t left = right_contour[walked], right = left_contour[walked];
+        measured[left] = right;
+        int32_t s = separation - (place[right] - place[left]);
+        if (s > 0) {
+            size_t i = 0;
+            while (end[family[i]] <= left) {
+                i++;
+            }
+            size_t k = j - i;
+            int32_t q = s / (int32_t)k;
+            conflicts++;
+            widest = k > widest ? k : widest;
+            move_right(root, s);
+            for (size_t t = 1; t < k; t++) {
+                move_right(family[i + t], (int32_t)t * q);
+            }
+        }
+    }
+}
+
+/* Steps 2 to 5 for a node whose children are drawn. */
+static void draw_family(size_t parent, int32_t separation)
+{
+    size_t right_contour[MOST_NODES], joined = 0, count = 0;
+    for (size_t root = parent + 1; root < end[parent]; root = end[root]) {
+        family[count++] = root;
+    }
+    place[parent] = 0;
+    for (size_t j = 0; j < count; j++) {
+        if (j == 0) {
+            move_right(family[0], -place[family[0]]);
+        } else {
+            join(j, separation, right_contour, joined);
+        }
+        for (size_t position = family[j]; j + 1 < count && position < end[family[j]]; position++) {
+            right_contour[level[position]] = position;
+            joined = level[position] > joined ? level[position] : joined;
+        }
+    }
+    if (count > 0) {
+        int32_t first = place[family[0]], last = place[family[count - 1]];
+        place[parent] = first + (last - first) / 2;
+    }
+}
+
+/* Levels and neighbours by a walk level by level. */
+static void walk_levels(const uint16_t *table, size_t nodes, struct drawing *drawing)
+{
+    uint16_t order[MOST_NODES] = {0};
+    size_t count = 1;
+    drawing->level[0] = 0;
+    for (size_t next = 0; next < count; next++) {
+        uint16_t below = (uint16_t)(drawing->level[order[next]] + 1);
+        for (uint16_t node = table[2 * order[next]]; node != NONE; node = table[2 * node + 1]) {
+            drawing->level[node] = below;
+            order[count++] = node;
+        }
+    }
+    drawing->level_count = drawing->level[order[nodes - 1]] + (size_t)1;
+    drawing->pairs = 0;
+    for (size_t next = 0; next < nodes; next++) {
+        int beside = next + 1 < nodes
+                     && drawing->level[order[next]] == drawing->level[order[next + 1]];
+        drawing->right[order[next]] = beside ? order[next + 1] : NONE;
+        drawing->pairs += beside;
+    }
+}
+
+void draw(const uint16_t *table, size_t nodes, int32_t separation, struct drawing *drawing)
+{
+    size_t at[MOST_NODES];
+    conflicts = widest = 0;
+    walk_levels(table, nodes, drawing);
+    number_parents_first(table, node_at);
+    for (size_t position = 0; position < nodes; position++) {
+        at[node_at[position]] = position;
+        level[position] = drawing->level[node_at[position]];
+        measured[position] = 0;
+    }
+    /* Step 1: each subtree on its own, so children before their parents. */
+    for (size_t position = nodes; position-- > 0;) {
+        end[position] = position + 1;
+        uint16_t child = table[2 * node_at[position]];
+        for (; child != NONE; child = table[2 * child + 1]) {
+            end[position] = end[at[child]];
+        }
+        draw_family(position, separation);
+    }
+    drawing->conflicts = conflicts;
+    drawing->widest = widest;
+    /* Step 6. */
+    move_right(0, -place[0]);
+    for (size_t position = 0; position < nodes; position++) {
+        uint16_t node = node_at[position];
+        drawing->place[node] = place[position];
+        /* The pairs that step 3 measures are the neighbours. */
+        uint16_t right = measured[position] == 0 ? NONE : node_at[measured[position]];
+        if (drawing->right[node] != right) {
+            __builtin_trap();
+        }
+    }
+}

@@ -1,0 +1,30 @@
+/* What the paper says of a table, a drawing and a sheet file, computed plainly and from the paper
+   alone. */
+
+#ifndef PAPER_H
+#define PAPER_H
+
+#include "../reference/c/inputs.h"
+
+/* The first of the conditions 1 to 5 that holds of a table, or 0. */
+unsigned table_number(const uint16_t *table, size_t len);
+
+/* The first of 9 to 12 and 7 that holds, or 0. */
+unsigned sheet_number(const uint8_t *file, size_t bytes, size_t table_len, size_t tapes_len);
+
+/* The nodes of a well-formed table, parent first, then the children's subtrees left to right. */
+void number_parents_first(const uint16_t *table, uint16_t *order);
+
+/* By node number, but for the counts. */
+struct drawing {
+    size_t level_count, pairs;
+    uint16_t level[MOST_NODES];
+    uint16_t right[MOST_NODES]; /* the right neighbour, or NONE */
+    int32_t place[MOST_NODES];
+    size_t conflicts, widest; /* how many, and the greatest k of one */
+};
+
+/* Where each node of a well-formed table stands: steps 1 to 6. */
+void draw(const uint16_t *table, size_t nodes, int32_t separation, struct drawing *drawing);
+
+#endif

@@ -1,0 +1,343 @@
+/*
+ * Takes an input as one call of the library, makes the call on slices of exactly their lengths
+ * beside pages that cannot be accessed, and holds all that came of it against the paper. An input:
+ *
+ *     byte 0         the operation, modulo 5
+ *     byte 1         what is done to the rest, see the bits below
+ *     bytes 2, 3     the separation, low byte first, as are all words
+ *     bytes 4 to 7   for each slice that is written, how many entries more than needed, signed
+ *     bytes 8 to 11  where a damage goes, and its word
+ *     the rest       a table's words, or a file's bytes; or, with TREE, one byte for each node
+ *                    after the root, which says how far it hangs above the node before it
+ */
+
+#include "hiwenoka.h"
+#include "../reference/c/lent.h"
+#include "../reference/c/random.h"
+#include "paper.h"
+#include <string.h>
+
+enum {
+    TREE = 1,        /* the rest is a well-formed tree, and a file is the sheet of that tree */
+    TURNED = 2,      /* the tree's nodes but the root are numbered from the last */
+    DAMAGED = 4,     /* an entry, or a word of the file, is replaced */
+    CLOSED = 8,      /* then every block's sum is made zero */
+    AFTER_GUARD = 16 /* the slices start after a guarded page, and do not end at one */
+};
+
+enum { HEAD = 12, MOST_ENTRIES = (MOST_FILE + BLOCK_BYTES) / 2 };
+
+struct input {
+    unsigned bits;
+    uint16_t separation;
+    int8_t slack[4];
+    uint16_t index, word;
+    const uint8_t *rest;
+    size_t rest_len;
+};
+
+/* How large a drawing is and what conflicts it has, for the fuzzer to keep what is new in either, as
+   small trees take every branch already. */
+__attribute__((section("__libfuzzer_extra_counters"))) static uint8_t drawn[2][12][12];
+
+/* The count of binary digits. */
+static size_t digits(size_t number)
+{
+    return number == 0 ? 0 : 1 + digits(number / 2);
+}
+
+static size_t at_most(size_t number, size_t bound)
+{
+    return number < bound ? number : bound;
+}
+
+/* The length of a slice for which so many entries are needed. */
+static size_t length(const struct input *input, int slice, size_t needed)
+{
+    int slack = input->slack[slice];
+    return slack < 0 && needed < (size_t)-slack ? 0 : needed + (size_t)slack;
+}
+
+/* A byte says that a node is the child of the node before it, of that node's parent, and so on. */
+static size_t tree_of(const struct input *input, uint16_t *table)
+{
+    static const uint8_t climbs[16] = {0, 0, 0, 0, 0, 0, 0, 1, 1, 1, 1, 2, 2, 3, 6, 255};
+    uint16_t parent[MOST_NODES + 1] = {0}, last[MOST_NODES + 1];
+    size_t nodes = 1 + at_most(input->rest_len, MOST_NODES);
+    memset(table, 0xff, 4 * nodes);
+    for (size_t node = 1; node < nodes; node++) {
+        size_t above = node - 1;
+        for (unsigned steps = climbs[input->rest[node - 1] % 16]; steps > 0 && above > 0; steps--) {
+            above = parent[above];
+        }
+        int turned = (input->bits & TURNED) != 0;
+        uint16_t number = (uint16_t)(turned ? nodes - node : node);
+        size_t under = turned && above > 0 ? nodes - above : above;
+        *(table[2 * under] == NONE ? &table[2 * under] : &table[2 * last[above] + 1]) = number;
+        last[above] = number;
+        parent[node] = (uint16_t)above;
+    }
+    return 2 * nodes;
+}
+
+static size_t table_of(const struct input *input, uint16_t *table)
+{
+    size_t len = at_most(input->rest_len / 2, MOST_ENTRIES);
+    if (input->bits & TREE) {
+        len = tree_of(input, table);
+    } else {
+        memcpy(table, input->rest, 2 * len);
+    }
+    if ((input->bits & DAMAGED) && len > 1) {
+        /* Mostly a word that names a node. */
+        table[input->index % len]
+            = input->word >= 0x8000 ? input->word : (uint16_t)(input->word % (len / 2));
+    }
+    return len;
+}
+
+static size_t file_of(const struct input *input, uint8_t *file)
+{
+    size_t bytes = at_most(input->rest_len, MOST_FILE + BLOCK_BYTES);
+    if (input->bits & TREE) {
+        uint16_t table[2 * MOST_NODES + 2];
+        size_t nodes = at_most(tree_of(input, table) / 2, MOST_NODES);
+        bytes = make_sheet(file, table, nodes, input->separation);
+    } else {
+        memcpy(file, input->rest, bytes);
+    }
+    size_t blocks = bytes / BLOCK_BYTES;
+    if ((input->bits & DAMAGED) && blocks > 0) {
+        put_word(file, 0, input->index % (blocks * BLOCK_WORDS), input->word);
+    }
+    for (size_t block = 0; (input->bits & CLOSED) && block < blocks; block++) {
+        close_block(file, block);
+    }
+    return bytes;
+}
+
+/* The table of the tree whose nodes have their children in reverse order. */
+static void mirror_plainly(const uint16_t *table, size_t len, uint16_t *mirrored)
+{
+    memset(mirrored, 0xff, 2 * len);
+    for (size_t node = 0; node < len / 2; node++) {
+        for (uint16_t child = table[2 * node]; child != NONE; child = table[2 * child + 1]) {
+            mirrored[2 * child + 1] = mirrored[2 * node];
+            mirrored[2 * node] = child;
+        }
+    }
+}
+
+static void expect_words(const struct lent *lent, const uint16_t *words, size_t count)
+{
+    expect(memcmp(lent->start, words, 2 * count) == 0, "the words are those of the paper");
+    expect_written(lent, 2 * count);
+}
+
+static void expect_word(const struct lent *lent, size_t word)
+{
+    expect(*(uint16_t *)lent->start == word, "a result field is that of the paper");
+}
+
+static void expect_number(const struct lent *input, unsigned number, unsigned wanted)
+{
+    expect(number == wanted, "the number is that of the paper");
+    expect_written(input, 0);
+}
+
+static void check_table(const uint16_t *entries, size_t len)
+{
+    struct lent table = lend_input(entries, 2 * len), nodes = lend_output(2);
+    unsigned number = hiwenoka_check_table(table.start, len, nodes.start);
+    expect_number(&table, number, table_number(entries, len));
+    expect_word(&nodes, number == 0 ? len / 2 : 0);
+}
+
+static void mirror(const struct input *input, const uint16_t *entries, size_t len)
+{
+    uint16_t mirrored[2 * MOST_NODES];
+    size_t out_len = length(input, 0, len);
+    struct lent table = lend_input(entries, 2 * len), out = lend_output(2 * out_len);
+    unsigned number = hiwenoka_mirror(table.start, len, out.start, out_len);
+    unsigned wanted = table_number(entries, len);
+    expect_number(&table, number, wanted != 0 ? wanted : out_len < len ? 7 : 0);
+    if (number == 0) {
+        mirror_plainly(entries, len, mirrored);
+    }
+    expect_words(&out, mirrored, number == 0 ? len : 0);
+}
+
+static void renumber(const struct input *input, const uint16_t *entries, size_t len)
+{
+    uint16_t old[MOST_NODES], new[MOST_NODES], renumbered[2 * MOST_NODES];
+    size_t nodes = len / 2, out_len = length(input, 0, len), map_len = length(input, 1, nodes);
+    struct lent table = lend_input(entries, 2 * len);
+    struct lent out = lend_output(2 * out_len), map = lend_output(2 * map_len);
+    unsigned number = hiwenoka_renumber(table.start, len, out.start, out_len, map.start, map_len);
+    unsigned wanted = table_number(entries, len);
+    expect_number(&table, number, wanted != 0 ? wanted : out_len < len || map_len < nodes ? 7 : 0);
+    if (number == 0) {
+        number_parents_first(entries, old);
+        for (size_t node = 0; node < nodes; node++) {
+            new[old[node]] = (uint16_t)node;
+        }
+        for (size_t i = 0; i < len; i++) {
+            uint16_t named = entries[2 * old[i / 2] + i % 2];
+            renumbered[i] = named == NONE ? NONE : new[named];
+        }
+    }
+    expect_words(&out, renumbered, number == 0 ? len : 0);
+    expect_words(&map, old, number == 0 ? nodes : 0);
+}
+
+/* The record has each pair of neighbours once, and nothing else. */
+static void expect_neighbours(const uint16_t *record, struct drawing drawing)
+{
+    for (size_t pair = 0; pair < drawing.pairs; pair++) {
+        uint16_t left = record[2 * pair], right = record[2 * pair + 1];
+        expect(left < MOST_NODES && right != NONE && drawing.right[left] == right,
+               "a pair is one of neighbours, the left one first, and comes once");
+        drawing.right[left] = NONE;
+    }
+}
+
+/* What the paper says of places without naming them. */
+static void expect_promises(const uint16_t *entries, const int32_t *place, size_t nodes,
+                            int32_t separation, const struct drawing *drawing)
+{
+    expect(place[0] == 0, "the root is at 0");
+    for (size_t node = 0; node < nodes; node++) {
+        uint16_t right = drawing->right[node], first = entries[2 * node], last = first;
+        expect(right == NONE || place[right] - place[node] >= separation,
+               "neighbours keep the separation");
+        while (last != NONE && entries[2 * last + 1] != NONE) {
+            last = entries[2 * last + 1];
+        }
+        expect(first == NONE || place[node] == place[first] + (place[last] - place[first]) / 2,
+               "a parent stands in the middle of its children");
+    }
+}
+
+static void layout(const struct input *input, const uint16_t *entries, size_t len)
+{
+    static struct drawing drawing;
+    /* Slices for a table that is too long anyway need not be longer than for the longest. */
+    size_t n = at_most(len / 2, MOST_NODES + 1);
+    size_t places_len = length(input, 0, n), levels_len = length(input, 1, n);
+    size_t record_len = length(input, 2, 2 * n), work_len = length(input, 3, 16 * n);
+    struct lent table = lend_input(entries, 2 * len);
+    struct lent places = lend_output(4 * places_len), levels = lend_output(2 * levels_len);
+    struct lent record = lend_output(2 * record_len), work = lend_output(4 * work_len);
+    struct lent nodes = lend_output(2), level_count = lend_output(2), pairs = lend_output(2);
+    struct lent least = lend_output(4), greatest = lend_output(4);
+    unsigned number = hiwenoka_layout(table.start, len, input->separation, places.start, places_len,
+                                      levels.start, levels_len, record.start, record_len,
+                                      work.start, work_len, nodes.start, level_count.start,
+                                      least.start, greatest.start, pairs.start);
+    unsigned wanted = table_number(entries, len);
+    wanted = wanted != 0                                                      ? wanted
+             : input->separation < 1 || input->separation > 1024              ? 6
+             : places_len < n || levels_len < n || record_len < 2 * n         ? 7
+             : work_len < 16 * n                                              ? 8
+                                                                              : 0;
+    expect_number(&table, number, wanted);
+    int32_t leftmost = 0, rightmost = 0;
+    if (number != 0) {
+        n = 0;
+        drawing.level_count = drawing.pairs = 0;
+    } else {
+        draw(entries, n, input->separation, &drawing);
+        drawn[0][digits(n)][digits(drawing.level_count)] = 1;
+        drawn[1][digits(drawing.conflicts)][digits(drawing.widest)] = 1;
+        expect_promises(entries, places.start, n, input->separation, &drawing);
+    }
+    for (size_t node = 0; node < n; node++) {
+        leftmost = drawing.place[node] < leftmost ? drawing.place[node] : leftmost;
+        rightmost = drawing.place[node] > rightmost ? drawing.place[node] : rightmost;
+    }
+    expect(memcmp(places.start, drawing.place, 4 * n) == 0, "the places are those of the rule");
+    expect_written(&places, 4 * n);
+    expect_words(&levels, drawing.level, n);
+    expect(drawing.pairs + drawing.level_count == n, "as many pairs as nodes less levels");
+    expect_neighbours(record.start, drawing);
+    expect_written(&record, 4 * drawing.pairs);
+    expect_zero(&work, 64 * n);
+    expect_written(&work, 64 * n);
+    expect_word(&nodes, n);
+    expect_word(&level_count, drawing.level_count);
+    expect_word(&pairs, drawing.pairs);
+    expect(*(int32_t *)least.start == leftmost, "the least place");
+    expect(*(int32_t *)greatest.start == rightmost, "the greatest place");
+}
+
+static void read_sheet(const struct input *input, const uint8_t *bytes, size_t len)
+{
+    uint16_t wanted_table[2 * MOST_NODES], wanted_tapes[2 * MOST_NODES];
+    size_t n = len < BLOCK_BYTES ? 0 : at_most(get_word(bytes, 0, 2), MOST_NODES);
+    size_t table_len = length(input, 0, 2 * n), tapes_len = length(input, 1, 2 * n);
+    struct lent file = lend_input(bytes, len);
+    struct lent table = lend_output(2 * table_len), tapes = lend_output(2 * tapes_len);
+    struct lent nodes = lend_output(2), separation = lend_output(2);
+    unsigned number = hiwenoka_read_sheet(file.start, len, table.start, table_len, tapes.start,
+                                          tapes_len, nodes.start, separation.start);
+    expect_number(&file, number, sheet_number(bytes, len, table_len, tapes_len));
+    n = number == 0 ? n : 0;
+    for (size_t i = 0; i < 2 * n; i++) {
+        size_t node = i / 2, word = 2 + 4 * (node % BLOCK_ROWS) + i % 2;
+        wanted_table[i] = get_word(bytes, 1 + node / BLOCK_ROWS, word);
+        wanted_tapes[i] = get_word(bytes, 1 + node / BLOCK_ROWS, word + 2);
+    }
+    expect_words(&table, wanted_table, 2 * n);
+    expect_words(&tapes, wanted_tapes, 2 * n);
+    expect_word(&nodes, n);
+    expect_word(&separation, number == 0 ? get_word(bytes, 0, 3) : 0);
+}
+
+int LLVMFuzzerInitialize(int *count, char ***words)
+{
+    (void)count;
+    (void)words;
+    take_back(AT_END);
+    return 0;
+}
+
+int LLVMFuzzerTestOneInput(const uint8_t *data, size_t size)
+{
+    static uint16_t table[MOST_ENTRIES];
+    static uint8_t file[MOST_FILE + BLOCK_BYTES];
+    if (size < HEAD) {
+        return 0;
+    }
+    struct input input = {
+        .bits = data[1],
+        .separation = get_word(data, 0, 1),
+        .index = get_word(data, 0, 4),
+        .word = get_word(data, 0, 5),
+        .rest = data + HEAD,
+        .rest_len = size - HEAD,
+    };
+    memcpy(input.slack, data + 4, 4);
+    /* What the slices hold, and a sheet's tapes, hang on the input alone. */
+    seed_random(input.separation + 65536 * (uint64_t)size);
+    take_back(input.bits & AFTER_GUARD ? AT_START : AT_END);
+    unsigned operation = data[0] % 5;
+    size_t len = operation == 4 ? file_of(&input, file) : table_of(&input, table);
+    switch (operation) {
+    case 0:
+        check_table(table, len);
+        break;
+    case 1:
+        mirror(&input, table, len);
+        break;
+    case 2:
+        renumber(&input, table, len);
+        break;
+    case 3:
+        layout(&input, table, len);
+        break;
+    case 4:
+        read_sheet(&input, file, len);
+        break;
+    }
+    return 0;
+}
