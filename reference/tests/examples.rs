@@ -1,12 +1,13 @@
-//! The two programs of `examples/`: each builds by the command line in its first lines, prints what
-//! it must, and stands in the README as it is. The header is read by a C and a C++ compiler alone.
+//! The programs of `examples/`: each builds by the command line in its first lines and prints what it must, and the README shows the
+//! two that list a sheet as they are. The header is read by a C and a C++ compiler alone.
 
 use reference::run::say;
+use std::fs::File;
 use std::path::{Path, PathBuf};
-use std::process::Command;
+use std::process::{Command, Stdio};
 
-/// What both programs print: number, level and place of each node.
-const PRINTED: &str = "0 0 0\n1 1 -1\n2 2 -2\n3 2 1\n4 1 2\n";
+/// What a layout's example prints: number, level and place of each node.
+const PLACES: &str = "0 0 0\n1 1 -1\n2 2 -2\n3 2 1\n4 1 2\n";
 
 fn root() -> PathBuf {
     Path::new(env!("CARGO_MANIFEST_DIR")).join("..")
@@ -28,12 +29,15 @@ fn printed_by(command: &mut Command) -> String {
     String::from_utf8(output.stdout).expect("what is printed is text")
 }
 
-/// Builds a program by its own command line, but for the path that is built, and runs it.
-fn build_and_run(source: &str, compiler: &str) {
+/// Builds a program by its own command line, but for the path that is built.
+fn built(source: &str, compiler: &str) -> Command {
     let text = text(source);
     let line = text
         .lines()
-        .map(|line| line.trim_start_matches(['/', '*', ' ']))
+        .map(|line| {
+            line.trim_start_matches(['/', '*', ' '])
+                .trim_end_matches([' ', '*', '/'])
+        })
         .find(|line| line.starts_with(compiler))
         .expect("the command line stands in the first lines");
     let mut words: Vec<&str> = line.split(' ').collect();
@@ -41,28 +45,43 @@ fn build_and_run(source: &str, compiler: &str) {
     let program = Path::new(env!("CARGO_TARGET_TMPDIR")).join(source.replace(['/', '.'], "_"));
     *words.last_mut().expect("a command has words") = program.to_str().expect("a path of text");
     printed_by(Command::new(words[0]).args(&words[1..]));
-    assert_eq!(printed_by(&mut Command::new(&program)), PRINTED);
+    Command::new(program)
+}
+
+/// The program lists the samples as they are stored.
+fn lists(mut program: Command) {
+    for sample in ["example", "family", "damaged-tree"] {
+        let sheet = File::open(root().join(format!("samples/{sample}.sheet"))).expect("a sample");
+        let printed = printed_by(program.stdin(Stdio::from(sheet)));
+        assert_eq!(printed, text(&format!("samples/{sample}.listing")));
+    }
 }
 
 #[test]
-fn the_program_in_c_builds_and_prints() {
-    build_and_run("examples/layout.c", "gcc ");
+fn the_programs_in_c_build_and_print() {
+    lists(built("examples/list.c", "gcc "));
+    let printed = printed_by(&mut built("examples/layout.c", "gcc "));
+    assert_eq!(printed, PLACES);
 }
 
 #[test]
-fn the_program_in_rust_builds_and_prints() {
-    build_and_run("examples/layout.rs", "rustc ");
+fn the_programs_in_rust_build_and_print() {
+    lists(built("examples/list.rs", "rustc "));
+    let printed = printed_by(&mut built("examples/layout.rs", "rustc "));
+    assert_eq!(printed, PLACES);
 }
 
 #[test]
-fn the_readme_shows_both_programs() {
+fn the_readme_shows_the_programs_and_the_sample() {
     let readme = text("README.md");
-    for (language, source) in [("c", "examples/layout.c"), ("rust", "examples/layout.rs")] {
+    let shown = [
+        ("c", "examples/list.c"),
+        ("rust", "examples/list.rs"),
+        ("text", "samples/p6.listing"),
+    ];
+    for (language, source) in shown {
         let block = format!("\n```{language}\n{}```\n", text(source));
         assert!(readme.contains(&block), "{source} as it is");
-    }
-    for line in PRINTED.lines() {
-        assert!(readme.contains(&format!("`{line}`")), "the line {line}");
     }
 }
 
