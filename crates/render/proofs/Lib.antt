@@ -1,4 +1,5 @@
 -- The numbers that can occur, and what a slice holds that an accepted operation wrote.
 pub mod Numbers
-pub mod Listed
+pub mod TableText
+pub mod SheetText
 pub mod Example

@@ -10,7 +10,7 @@ use borrow.Author.Tests.{lt-leb}
 use Rattle.lines.proofs.Answer.{not-printed}
 use Rattle.sheet.specs.Read.{SheetRead}
 use Rattle.render.specs.Text.{textRoom}
-use Rattle.render.proofs.Listed.{with-room, refused-sheet, nodes-few, separation-some, separation-small, sheet-listed}
+use Rattle.render.proofs.SheetText.{with-room, refused-sheet, nodes-few, separation-some, separation-small, sheet-listed}
 use Rattle.render.proofs.list_sheet.Statement.{statement}
 use Rattle.render.proofs.list_sheet.Tie as tie
 

@@ -10,7 +10,7 @@ use borrow.Author.Needs.{needs}
 use Rattle.tree.specs.Table.{nodes}
 use Rattle.rule.specs.Result.{Slices, Answer, Layout}
 use Rattle.layout.specs.Operation.{slices, answer}
-use Rattle.render.proofs.Listed.{Ample, few, refused-listed, accepted-listed}
+use Rattle.render.proofs.TableText.{Ample, few, refused-listed, accepted-listed}
 use Rattle.render.proofs.list_table.Statement.{statement}
 use Rattle.render.proofs.list_table.Tie as tie
 

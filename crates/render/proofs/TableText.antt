@@ -1,38 +1,29 @@
 -- What is printed for a table, from what the layout and the text's writer promise. Assumes nothing.
-use mathlib.Core.Path.{_≡_, refl, sym, ap, ap₂, _∙_, subst}
-use mathlib.Core.Bool.{Bool, true, not}
-use mathlib.Core.Logic.{inr}
+use mathlib.Core.Path.{_≡_, sym, ap, ap₂, _∙_, subst}
+use mathlib.Core.Bool.{Bool, true}
 use mathlib.Core.List.{List}
-use Prim.Native.Nat.{ℕ, _*_, _%_, _^_, _≤_, _<_}
+use Prim.Native.Nat.{ℕ, _*_, _^_, _≤_, _<_}
 use native.Mathlib.Omega.{arith}
-use lib.Dec.{eqb, ltb, leb}
 use lib.IntN.{ℤ, pos}
 use lib.Signed.{mag}
 use mir.Syntax.{w32}
 use mir.Val.{toZ, ofZ}
 use lib.ListN.{length, take, length-map}
-use borrow.Author.Tests.{le-leb, lt-ltb}
+use borrow.Author.Tests.{le-leb}
 use Rattle.refusal.specs.After.{granted}
 use Rattle.tree.specs.Numbers.{upTo}
 use Rattle.tree.specs.Table.{nodes}
 use Rattle.tree.specs.Levels.{level, levelCount}
 use Rattle.tree.specs.WellFormed.{tableNumber}
-use Rattle.refusal.proofs.Truth.{or-true}
 use Rattle.tree.proofs.Stands.{accepted-length}
 use Rattle.rule.specs.Result.{Slices, Answer, Layout, layoutNumber, place, placesOf, levelsOf, leastOf, greatestOf}
 use Rattle.layout.proofs.Carried.{carried}
 use Rattle.layout.proofs.Extreme.{least-small, greatest-small}
 use Rattle.layout.proofs.Settling.{length-upTo}
-use Rattle.sheet.specs.Below.{joined}
-use Rattle.sheet.specs.Block.{blockBytes}
-use Rattle.sheet.specs.Layout.{blocksFor}
-use Rattle.sheet.specs.declared.Sheet.{Sheet}
-use Rattle.sheet.specs.Read.{nodesOf, separationOf, nodePair, tableOf, tapesOf, lengthWrong, fileNumber, refusal, SheetRead}
-use Rattle.sheet.proofs.Below.{length-joined}
-use Rattle.sheet.proofs.Answer.{readable, file-decides}
+use Rattle.sheet.specs.Read.{refusal}
 use Rattle.lines.specs.Listing.{listing, refusedLine}
 use Rattle.lines.specs.Printed.{mostNodes, refusalRoom, listingRoom, printable, when, Printed, ListingPrinted, RefusalPrinted}
-use Rattle.render.specs.Text.{textRoom, drawnListing, tableText, sheetText}
+use Rattle.render.specs.Text.{textRoom, drawnListing, tableText}
 use Rattle.render.proofs.Numbers.{most-nodes, table-decides, written, text-refused, text-granted}
 
 -- a text that is printed where a test holds
@@ -145,77 +136,3 @@ module _ (t : List ℕ) (D : ℕ) (some : 1 ≤ D) (small : D ≤ 1024) (tapes :
         shown (can-print room tapes-enough)
         (ap₂ (λ (x y : ℤ). listing (a .nodes) (a .levels) D x y (take (a .nodes) (u .levels)) (take (a .nodes) (u .places)) tapes) least-kept greatest-kept
         ∙ same-listing) p
-
--- ---- the file
-
--- a text that is printed where there is room for it
-pub with-room : {text old new : List ℕ} {answer : ℕ} → textRoom ≤ length old → Printed text old answer new
-    → Printed (when (leb textRoom (length old)) text) old answer new
-with-room {text} {old} {new} {answer} room p = subst (λ (b : Bool). Printed (when b text) old answer new) (sym (le-leb textRoom (length old) room)) p
-
-module _ (file table tapes table′ tapes′ : List ℕ) (r : Sheet) (table-long : 2048 ≤ length table) (tapes-long : 2048 ≤ length tapes)
-    (S : SheetRead file table tapes r table′ tapes′) where
-  reads : refusal file (length table) (length tapes) ≡ fileNumber file
-  reads = file-decides file (length table) (length tapes) table-long tapes-long
-
-  -- a refusal
-  pub refused-sheet : {old new : List ℕ} {k : ℕ} → textRoom ≤ length old → (r .number ≡ 0 → ⊥) → RefusalPrinted (r .number) old k new
-      → Printed (sheetText file) old k new
-  unfolding sheetText
-  refused-sheet room h p =
-      let number : r .number ≡ fileNumber file = S .number ∙ reads in
-      refusal-shown (r .number) room (ap refusedLine number ∙ sym (text-refused (fileNumber file) _ (λ e. h (number ∙ e)))) p
-
-  -- an acceptance
-  module _ (e : r .number ≡ 0) where
-    taken : refusal file (length table) (length tapes) ≡ 0
-    taken = sym (S .number) ∙ e
-
-    file-sound : fileNumber file ≡ 0
-    file-sound = sym reads ∙ taken
-
-    nodes-read : r .nodes ≡ nodesOf file
-    nodes-read = S .nodes ∙ ap (λ (k : ℕ). granted k (nodesOf file) 0) taken
-
-    separation-read : r .separation ≡ separationOf file
-    separation-read = S .separation ∙ ap (λ (k : ℕ). granted k (separationOf file) 0) taken
-
-    pub nodes-few : r .nodes ≤ 1024
-    nodes-few = subst (λ (n : ℕ). n ≤ 1024) (sym nodes-read) (readable file file-sound .nodes-most)
-
-    pub separation-some : 1 ≤ r .separation
-    separation-some = subst (λ (d : ℕ). 1 ≤ d) (sym separation-read) (readable file file-sound .separation-some)
-
-    pub separation-small : r .separation ≤ 1024
-    separation-small = subst (λ (d : ℕ). d ≤ 1024) (sym separation-read) (readable file file-sound .separation-most)
-
-    pair-length : (j n : ℕ) → length (joined n (nodePair file j)) ≡ 2 * n
-    pair-length j n = length-joined 2 (nodePair file j) (λ k. refl) n
-
-    table-read : take (2 * r .nodes) table′ ≡ tableOf file (nodesOf file)
-    table-read =
-        ap (λ (l : List ℕ). take (2 * r .nodes) l) (S .table-after)
-        ∙ written (refusal file (length table) (length tapes)) (2 * r .nodes) (tableOf file (nodesOf file)) table taken
-        (pair-length 0 (nodesOf file) ∙ ap (λ (n : ℕ). 2 * n) (sym nodes-read))
-
-    tapes-read : take (2 * r .nodes) tapes′ ≡ tapesOf file (nodesOf file)
-    tapes-read =
-        ap (λ (l : List ℕ). take (2 * r .nodes) l) (S .tapes-after)
-        ∙ written (refusal file (length table) (length tapes)) (2 * r .nodes) (tapesOf file (nodesOf file)) tapes taken
-        (pair-length 2 (nodesOf file) ∙ ap (λ (n : ℕ). 2 * n) (sym nodes-read))
-
-    same-text : tableText (r .separation) (take (2 * r .nodes) table′) (take (2 * r .nodes) tapes′) ≡ sheetText file
-    unfolding sheetText
-    same-text = rw (table-read, tapes-read, separation-read) (sym (text-granted (fileNumber file) _ file-sound))
-
-    pub sheet-listed : {old new : List ℕ} {k : ℕ} → Printed (tableText (r .separation) (take (2 * r .nodes) table′) (take (2 * r .nodes) tapes′)) old k new
-        → Printed (sheetText file) old k new
-    sheet-listed {old} {new} {k} p = subst (λ (x : List ℕ). Printed x old k new) same-text p
-
--- a file that is longer than the largest sheet's is refused with 9
-pub too-long : (file : List ℕ) → blockBytes * blocksFor mostNodes < length file → sheetText file ≡ refusedLine 9
-unfolding sheetText fileNumber
-too-long file h =
-    let long : lengthWrong (length file) ≡ true =
-    or-true {a = not (eqb (length file % blockBytes) 0)} (inr (or-true {a = ltb (length file) (blockBytes * 2)} (inr (lt-ltb (blockBytes * blocksFor mostNodes) (length file) h)))) in
-    simp long
