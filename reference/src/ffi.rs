@@ -49,6 +49,12 @@ mod raw {
             nodes: *mut u16,
             separation: *mut u16,
         ) -> u16;
+        pub fn hiwenoka_list_sheet(
+            file: *const u8,
+            file_len: usize,
+            out: *mut u8,
+            out_len: usize,
+        ) -> usize;
     }
 }
 
@@ -143,4 +149,13 @@ pub fn read_sheet(
             separation,
         )
     }
+}
+
+/// The bytes of `out` with which `list_sheet` can print any sheet.
+pub const TEXT_ROOM: usize = 41_024;
+
+#[inline]
+pub fn list_sheet(file: &[u8], out: &mut [u8]) -> usize {
+    // SAFETY: as in `mirror`.
+    unsafe { raw::hiwenoka_list_sheet(file.as_ptr(), file.len(), out.as_mut_ptr(), out.len()) }
 }

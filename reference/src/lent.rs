@@ -7,6 +7,12 @@ pub trait Entry: Copy + PartialEq {
     fn of_bits(bits: u64) -> Self;
 }
 
+impl Entry for u8 {
+    fn of_bits(bits: u64) -> Self {
+        bits as u8
+    }
+}
+
 impl Entry for u16 {
     fn of_bits(bits: u64) -> Self {
         bits as u16

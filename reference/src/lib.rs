@@ -5,6 +5,7 @@
 //! program against them.
 
 pub mod ffi;
+pub mod files;
 pub mod layout;
 pub mod lent;
 pub mod listing;

@@ -4,6 +4,10 @@ use crate::layout::{layout, LaidOut, Slices};
 use crate::sheet::{read, Read};
 use crate::table::MOST_NODES;
 
+/// The numbers that a listing can give. The reader sees to it that a table has 2n entries and that
+/// n and D are in range, and the slices inside are long enough: 1 and 6 to 8 do not occur.
+pub const NUMBERS: [u16; 9] = [0, 2, 3, 4, 5, 9, 10, 11, 12];
+
 /// The bytes for this input.
 pub fn listing(file: &[u8]) -> Vec<u8> {
     match lines(file) {
@@ -11,6 +15,15 @@ pub fn listing(file: &[u8]) -> Vec<u8> {
         Err(number) => format!("refused {number}\n"),
     }
     .into_bytes()
+}
+
+/// The number that a listing gives.
+pub fn number_of(listing: &[u8]) -> u16 {
+    let text = String::from_utf8_lossy(listing);
+    match text.strip_prefix("refused ") {
+        Some(number) => number.trim_end().parse().expect("a refusal has a number"),
+        None => 0,
+    }
 }
 
 /// The sheet's line and one for each node, or the number of the refusal.

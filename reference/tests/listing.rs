@@ -3,14 +3,12 @@
 //! Every run must end in time and with success, and print what the model gives and nothing else,
 //! on either output. Only where its output is lost is it enough that the program ends.
 
-use reference::listing::listing;
+use reference::files::{random_file, random_table, KINDS};
+use reference::listing::{listing, number_of, NUMBERS};
 use reference::program::{self, Ended};
-use reference::random::Random;
 use reference::run::Run;
 use reference::samples::{self, samples};
-use reference::shapes::{self, SHAPES};
-use reference::sheet::{self, Sheet, BLOCK_BYTES, BLOCK_WORDS, MOST_BLOCKS};
-use reference::table::NONE;
+use reference::sheet::{self, BLOCK_BYTES, MOST_BLOCKS};
 use std::collections::BTreeMap;
 use std::fs::{self, File};
 use std::io::{self, PipeWriter, Write};
@@ -19,15 +17,8 @@ use std::process::{Command, Stdio};
 use std::time::Duration;
 use std::{fmt, thread};
 
-/// The numbers that a listing can give. The reader sees to it that a table has 2n entries and that
-/// n and D are in range, and the program's slices are long enough: 1 and 6 to 8 do not occur.
-const NUMBERS: [u16; 9] = [0, 2, 3, 4, 5, 9, 10, 11, 12];
-
 /// The length of the longest sheet file.
 const MOST_BYTES: usize = MOST_BLOCKS * BLOCK_BYTES;
-
-/// The longest of the random inputs.
-const MOST_RANDOM_BYTES: usize = 12_000;
 
 /// Long enough for the program to read all that there is.
 const MOMENT: Duration = Duration::from_millis(20);
@@ -71,66 +62,6 @@ fn lines(text: &[u8]) -> Vec<String> {
     text.split_inclusive(|&byte| byte == b'\n')
         .map(|line| line.escape_ascii().to_string())
         .collect()
-}
-
-/// The number that a listing gives.
-fn number_of(listing: &[u8]) -> u16 {
-    let text = String::from_utf8_lossy(listing);
-    match text.strip_prefix("refused ") {
-        Some(number) => number.trim_end().parse().expect("a refusal has a number"),
-        None => 0,
-    }
-}
-
-/// A tape number: any, a small one, or one beside a power of ten.
-fn random_tape(random: &mut Random) -> u32 {
-    match random.below(4) {
-        0 => random.bits() as u32,
-        1 => random.below(100_000) as u32,
-        2 => u32::MAX - random.below(2) as u32,
-        _ => 10_u32.pow(random.below(10) as u32) - random.below(2) as u32,
-    }
-}
-
-/// A sheet of this table, its separation often a small one.
-fn random_sheet(table: Vec<u16>, random: &mut Random) -> Sheet {
-    let greatest = [3, 12, 1_024][random.below(3)];
-    let tapes = (0..table.len() / 2).flat_map(|_| {
-        let tape = random_tape(random);
-        [tape as u16, (tape >> 16) as u16]
-    });
-    Sheet {
-        tapes: tapes.collect(),
-        separation: random.between(1, greatest) as u16,
-        table,
-    }
-}
-
-fn random_file(table: Vec<u16>, random: &mut Random) -> Vec<u8> {
-    sheet::write(&random_sheet(table, random))
-}
-
-/// A well-formed table of any shape, its numbers in any order.
-fn random_table(nodes: usize, random: &mut Random) -> Vec<u16> {
-    let shape = &SHAPES[random.below(SHAPES.len())];
-    let table = (shape.make)(nodes, random);
-    shapes::renumbered_at_random(&table, random)
-}
-
-/// A count of nodes, most often a small one.
-fn random_size(random: &mut Random) -> usize {
-    let greatest = [12, 48, 200, 1_024][random.below(4)];
-    random.between(1, greatest)
-}
-
-/// The blocks of a sound file of any tree.
-fn random_blocks(nodes: usize, random: &mut Random) -> Vec<Vec<u16>> {
-    let table = random_table(nodes, random);
-    sheet::blocks_of(&random_file(table, random))
-}
-
-fn random_bytes(len: usize, random: &mut Random) -> Vec<u8> {
-    (0..len).map(|_| random.bits() as u8).collect()
 }
 
 /// Writes in pieces of the given lengths, again and again, with a pause after each.
@@ -246,246 +177,6 @@ impl Comparison {
                 .expect_slice("lines", &printed, &lines(&stored), &sample.name);
         }
         self.run.end_section("the samples");
-    }
-
-    fn sound_sheets(&mut self) {
-        let random = &mut self.run.random;
-        let mut tables = Vec::new();
-        for nodes in 1..=6 {
-            tables.extend(shapes::every_tree(nodes));
-        }
-        for shape in &SHAPES {
-            let mut sizes: Vec<usize> = (1..=12).collect();
-            sizes.extend([62, 63, 64, 65, 126, 127, 1_008, 1_009, 1_023, 1_024]);
-            sizes.extend((0..20).map(|_| random.between(13, 300)));
-            sizes.extend((0..10).map(|_| random.between(301, 1_024)));
-            for nodes in sizes {
-                let table = (shape.make)(nodes, random);
-                tables.push(shapes::renumbered_at_random(&table, random));
-                tables.push(table);
-            }
-        }
-        for family in [shapes::contour_family, shapes::share_family] {
-            tables.extend((1..8).map(family));
-            tables.push(shapes::largest(family, 1_024));
-        }
-        for _ in 0..1_000 {
-            let nodes = random_size(random);
-            tables.push(random_table(nodes, random));
-        }
-        let files: Vec<_> = tables
-            .into_iter()
-            .map(|table| random_file(table, random))
-            .collect();
-        self.compare("sound sheets of many shapes", &files);
-    }
-
-    /// Both bounds of the separation, with the widest and the deepest of trees.
-    fn bounds_of_separation(&mut self) {
-        let random = &mut self.run.random;
-        let mut files = Vec::new();
-        for nodes in [3, 64, 1_024] {
-            for (_, table) in shapes::trees_of_each_shape(nodes, random) {
-                for separation in [1, 2, 1_023, 1_024] {
-                    let mut sheet = random_sheet(table.clone(), random);
-                    sheet.separation = separation;
-                    files.push(sheet::write(&sheet));
-                }
-            }
-        }
-        self.compare("separations at their bounds", &files);
-    }
-
-    /// One way or more to come to each of the numbers 2 to 5, and tables damaged at random.
-    fn refused_trees(&mut self) {
-        let random = &mut self.run.random;
-        let mut tables = Vec::new();
-        for nodes in [1, 2, 3, 62, 63, 64, 126, 127, 1_023, 1_024] {
-            tables.push(shapes::strays(nodes));
-            tables.push(shapes::ring(nodes));
-            tables.push(shapes::sibling_ring(nodes));
-            let last = nodes as u16 - 1;
-            for value in [0, last, last + 1, NONE - 1, NONE] {
-                for entry in [0, 1, 2 * nodes - 2, 2 * nodes - 1] {
-                    let mut table = random_table(nodes, random);
-                    table[entry] = value;
-                    tables.push(table);
-                }
-            }
-        }
-        for _ in 0..2_000 {
-            let nodes = random_size(random);
-            let table = random_table(nodes, random);
-            let count = random.between(1, 4);
-            tables.push(shapes::damaged(&table, count, random));
-        }
-        let files: Vec<_> = tables
-            .into_iter()
-            .map(|table| random_file(table, random))
-            .collect();
-        self.compare("damaged trees in sound files", &files);
-    }
-
-    fn flipped_bits(&mut self) {
-        let random = &mut self.run.random;
-        let mut files = Vec::new();
-        for _ in 0..600 {
-            let nodes = random_size(random);
-            let mut file = sheet::bytes_of(&random_blocks(nodes, random));
-            for _ in 0..random.between(1, 3) {
-                let byte = random.below(file.len());
-                file[byte] ^= 1 << random.below(8);
-            }
-            files.push(file);
-        }
-        self.compare("one to three bits flipped", &files);
-    }
-
-    /// Every fixed word once, then any words, the check mended or not.
-    fn changed_words(&mut self) {
-        let random = &mut self.run.random;
-        let mut files = Vec::new();
-        let nodes = 5;
-        let blocks = random_blocks(nodes, random);
-        for place in 0..blocks.len() {
-            for index in 0..BLOCK_WORDS {
-                if let Some(value) = sheet::fixed_word(nodes, place, index) {
-                    let mut changed = blocks.clone();
-                    changed[place][index] = value ^ (1 << random.below(16));
-                    sheet::close(&mut changed[place]);
-                    files.push(sheet::bytes_of(&changed));
-                }
-            }
-        }
-        for _ in 0..1_500 {
-            let nodes = random_size(random);
-            let mut blocks = random_blocks(nodes, random);
-            for _ in 0..random.between(1, 4) {
-                let place = random.below(blocks.len());
-                let index = match random.below(3) {
-                    0 => random.below(4),
-                    1 => random.below(BLOCK_WORDS),
-                    _ => random.between(2, 253),
-                };
-                blocks[place][index] = match random.below(4) {
-                    0 => 0,
-                    1 => blocks[place][index].wrapping_add(1),
-                    2 => random.below(1_026) as u16,
-                    _ => random.word(),
-                };
-                if !random.once_in(6) {
-                    sheet::close(&mut blocks[place]);
-                }
-            }
-            files.push(sheet::bytes_of(&blocks));
-        }
-        self.compare("words changed, most checks mended", &files);
-    }
-
-    /// n and D at their bounds in files of several lengths.
-    fn bounds_of_header(&mut self) {
-        let random = &mut self.run.random;
-        let mut files = Vec::new();
-        for nodes in [1, 63, 64, 1_024] {
-            let blocks = random_blocks(nodes, random);
-            for n in [0, 1, 62, 63, 64, 65, 1_023, 1_024, 1_025, 32_769, 65_535] {
-                for separation in [0, 1, 1_024, 1_025, 65_535] {
-                    let mut changed = blocks.clone();
-                    changed[0][2] = n;
-                    changed[0][3] = separation;
-                    sheet::close(&mut changed[0]);
-                    files.push(sheet::bytes_of(&changed));
-                }
-            }
-        }
-        self.compare("n and D at their bounds", &files);
-    }
-
-    /// Whole blocks moved about, as they are and with their places mended.
-    fn moved_blocks(&mut self) {
-        let random = &mut self.run.random;
-        let mut files = Vec::new();
-        for _ in 0..400 {
-            let nodes = random_size(random);
-            let mut blocks = random_blocks(nodes, random);
-            let (one, other) = (random.below(blocks.len()), random.below(blocks.len()));
-            match random.below(6) {
-                0 => blocks.swap(one, other),
-                1 => blocks[one] = blocks[other].clone(),
-                2 => blocks.insert(one, blocks[other].clone()),
-                3 => blocks[one].fill(0),
-                4 => random.shuffle(&mut blocks),
-                _ => {
-                    blocks.remove(one);
-                }
-            }
-            files.push(sheet::bytes_of(&blocks));
-            for (place, block) in blocks.iter_mut().enumerate() {
-                block[0] = place as u16;
-                sheet::close(block);
-            }
-            files.push(sheet::bytes_of(&blocks));
-        }
-        self.compare("blocks exchanged, doubled and dropped", &files);
-    }
-
-    /// Sound files cut off or followed by more, at block lengths and beside them, and at any.
-    fn lengths(&mut self) {
-        let random = &mut self.run.random;
-        let mut lengths: Vec<usize> = (0..=MOST_BLOCKS + 2)
-            .flat_map(|blocks| {
-                let len = blocks * BLOCK_BYTES;
-                [len.saturating_sub(1), len, len + 1]
-            })
-            .collect();
-        lengths.extend((0..200).map(|_| random.below(MOST_RANDOM_BYTES)));
-        let mut files = Vec::new();
-        for len in lengths {
-            for nodes in [63, 1_024] {
-                let table = random_table(nodes, random);
-                let mut file = random_file(table, random);
-                file.resize(len, 0);
-                files.push(file);
-            }
-        }
-        self.compare("files cut off and lengthened", &files);
-    }
-
-    /// Random bytes of any length, then blocks of them, mended so far that each later condition
-    /// comes to be tried.
-    fn random_inputs(&mut self) {
-        let random = &mut self.run.random;
-        let mut files = Vec::new();
-        for _ in 0..300 {
-            let len = random.between(0, MOST_RANDOM_BYTES);
-            files.push(random_bytes(len, random));
-        }
-        for _ in 0..700 {
-            let nodes = random_size(random);
-            let len = sheet::block_count(nodes) * BLOCK_BYTES;
-            let mut blocks = sheet::blocks_of(&random_bytes(len, random));
-            let mending = random.below(5);
-            for (place, block) in blocks.iter_mut().enumerate() {
-                if mending >= 2 {
-                    block[0] = place as u16;
-                }
-                for (index, word) in block.iter_mut().enumerate() {
-                    match sheet::fixed_word(nodes, place, index) {
-                        Some(value) if mending >= 4 => *word = value,
-                        _ => (),
-                    }
-                }
-            }
-            if mending >= 3 {
-                blocks[0][2] = nodes as u16;
-                blocks[0][3] = random.between(1, 1_024) as u16;
-            }
-            if mending >= 1 {
-                blocks.iter_mut().for_each(|block| sheet::close(block));
-            }
-            files.push(sheet::bytes_of(&blocks));
-        }
-        self.compare("random bytes, mended by steps", &files);
     }
 
     /// The same sheets from a file and through pipes in pieces of many lengths.
@@ -678,15 +369,10 @@ fn the_listing_program_agrees_with_the_model() {
         program: program::path_of("listing"),
     };
     comparison.samples();
-    comparison.sound_sheets();
-    comparison.bounds_of_separation();
-    comparison.refused_trees();
-    comparison.flipped_bits();
-    comparison.changed_words();
-    comparison.bounds_of_header();
-    comparison.moved_blocks();
-    comparison.lengths();
-    comparison.random_inputs();
+    for kind in &KINDS {
+        let files = (kind.make)(&mut comparison.run.random);
+        comparison.compare(kind.title, &files);
+    }
     comparison.ways_to_arrive();
     comparison.no_input_and_too_much();
     comparison.lost_outputs();

@@ -1,0 +1,335 @@
+//! Makers of sheet files: sound ones of many trees, damaged ones, and bytes that are no sheet.
+
+use crate::random::Random;
+use crate::shapes::{self, SHAPES};
+use crate::sheet::{self, Sheet, BLOCK_BYTES, BLOCK_WORDS, MOST_BLOCKS};
+use crate::table::NONE;
+
+/// A titled maker of many files.
+pub struct Kind {
+    pub title: &'static str,
+    pub make: fn(&mut Random) -> Vec<Vec<u8>>,
+}
+
+/// The kinds of files of every comparison of listings.
+pub const KINDS: [Kind; 9] = [
+    Kind {
+        title: "sound sheets of many shapes",
+        make: sound_sheets,
+    },
+    Kind {
+        title: "separations at their bounds",
+        make: bounds_of_separation,
+    },
+    Kind {
+        title: "damaged trees in sound files",
+        make: refused_trees,
+    },
+    Kind {
+        title: "one to three bits flipped",
+        make: flipped_bits,
+    },
+    Kind {
+        title: "words changed, most checks mended",
+        make: changed_words,
+    },
+    Kind {
+        title: "n and D at their bounds",
+        make: bounds_of_header,
+    },
+    Kind {
+        title: "blocks exchanged, doubled and dropped",
+        make: moved_blocks,
+    },
+    Kind {
+        title: "files cut off and lengthened",
+        make: lengths,
+    },
+    Kind {
+        title: "random bytes, mended by steps",
+        make: random_inputs,
+    },
+];
+
+/// The longest of the random inputs.
+const MOST_RANDOM_BYTES: usize = 12_000;
+
+/// A tape number: any, a small one, or one beside a power of ten.
+fn random_tape(random: &mut Random) -> u32 {
+    match random.below(4) {
+        0 => random.bits() as u32,
+        1 => random.below(100_000) as u32,
+        2 => u32::MAX - random.below(2) as u32,
+        _ => 10_u32.pow(random.below(10) as u32) - random.below(2) as u32,
+    }
+}
+
+/// A sheet of this table, its separation often a small one.
+fn random_sheet(table: Vec<u16>, random: &mut Random) -> Sheet {
+    let greatest = [3, 12, 1_024][random.below(3)];
+    let tapes = (0..table.len() / 2).flat_map(|_| {
+        let tape = random_tape(random);
+        [tape as u16, (tape >> 16) as u16]
+    });
+    Sheet {
+        tapes: tapes.collect(),
+        separation: random.between(1, greatest) as u16,
+        table,
+    }
+}
+
+pub fn random_file(table: Vec<u16>, random: &mut Random) -> Vec<u8> {
+    sheet::write(&random_sheet(table, random))
+}
+
+/// A well-formed table of any shape, its numbers in any order.
+pub fn random_table(nodes: usize, random: &mut Random) -> Vec<u16> {
+    let shape = &SHAPES[random.below(SHAPES.len())];
+    let table = (shape.make)(nodes, random);
+    shapes::renumbered_at_random(&table, random)
+}
+
+/// A count of nodes, most often a small one.
+fn random_size(random: &mut Random) -> usize {
+    let greatest = [12, 48, 200, 1_024][random.below(4)];
+    random.between(1, greatest)
+}
+
+/// The blocks of a sound file of any tree.
+fn random_blocks(nodes: usize, random: &mut Random) -> Vec<Vec<u16>> {
+    let table = random_table(nodes, random);
+    sheet::blocks_of(&random_file(table, random))
+}
+
+fn random_bytes(len: usize, random: &mut Random) -> Vec<u8> {
+    (0..len).map(|_| random.bits() as u8).collect()
+}
+
+fn sound_sheets(random: &mut Random) -> Vec<Vec<u8>> {
+    let mut tables = Vec::new();
+    for nodes in 1..=6 {
+        tables.extend(shapes::every_tree(nodes));
+    }
+    for shape in &SHAPES {
+        let mut sizes: Vec<usize> = (1..=12).collect();
+        sizes.extend([62, 63, 64, 65, 126, 127, 1_008, 1_009, 1_023, 1_024]);
+        sizes.extend((0..20).map(|_| random.between(13, 300)));
+        sizes.extend((0..10).map(|_| random.between(301, 1_024)));
+        for nodes in sizes {
+            let table = (shape.make)(nodes, random);
+            tables.push(shapes::renumbered_at_random(&table, random));
+            tables.push(table);
+        }
+    }
+    for family in [shapes::contour_family, shapes::share_family] {
+        tables.extend((1..8).map(family));
+        tables.push(shapes::largest(family, 1_024));
+    }
+    for _ in 0..1_000 {
+        let nodes = random_size(random);
+        tables.push(random_table(nodes, random));
+    }
+    tables
+        .into_iter()
+        .map(|table| random_file(table, random))
+        .collect()
+}
+
+/// Both bounds of the separation, with the widest and the deepest of trees.
+fn bounds_of_separation(random: &mut Random) -> Vec<Vec<u8>> {
+    let mut files = Vec::new();
+    for nodes in [3, 64, 1_024] {
+        for (_, table) in shapes::trees_of_each_shape(nodes, random) {
+            for separation in [1, 2, 1_023, 1_024] {
+                let mut sheet = random_sheet(table.clone(), random);
+                sheet.separation = separation;
+                files.push(sheet::write(&sheet));
+            }
+        }
+    }
+    files
+}
+
+/// One way or more to come to each of the numbers 2 to 5, and tables damaged at random.
+fn refused_trees(random: &mut Random) -> Vec<Vec<u8>> {
+    let mut tables = Vec::new();
+    for nodes in [1, 2, 3, 62, 63, 64, 126, 127, 1_023, 1_024] {
+        tables.push(shapes::strays(nodes));
+        tables.push(shapes::ring(nodes));
+        tables.push(shapes::sibling_ring(nodes));
+        let last = nodes as u16 - 1;
+        for value in [0, last, last + 1, NONE - 1, NONE] {
+            for entry in [0, 1, 2 * nodes - 2, 2 * nodes - 1] {
+                let mut table = random_table(nodes, random);
+                table[entry] = value;
+                tables.push(table);
+            }
+        }
+    }
+    for _ in 0..2_000 {
+        let nodes = random_size(random);
+        let table = random_table(nodes, random);
+        let count = random.between(1, 4);
+        tables.push(shapes::damaged(&table, count, random));
+    }
+    tables
+        .into_iter()
+        .map(|table| random_file(table, random))
+        .collect()
+}
+
+fn flipped_bits(random: &mut Random) -> Vec<Vec<u8>> {
+    let mut files = Vec::new();
+    for _ in 0..600 {
+        let nodes = random_size(random);
+        let mut file = sheet::bytes_of(&random_blocks(nodes, random));
+        for _ in 0..random.between(1, 3) {
+            let byte = random.below(file.len());
+            file[byte] ^= 1 << random.below(8);
+        }
+        files.push(file);
+    }
+    files
+}
+
+/// Every fixed word once, then any words, the check mended or not.
+fn changed_words(random: &mut Random) -> Vec<Vec<u8>> {
+    let mut files = Vec::new();
+    let nodes = 5;
+    let blocks = random_blocks(nodes, random);
+    for place in 0..blocks.len() {
+        for index in 0..BLOCK_WORDS {
+            if let Some(value) = sheet::fixed_word(nodes, place, index) {
+                let mut changed = blocks.clone();
+                changed[place][index] = value ^ (1 << random.below(16));
+                sheet::close(&mut changed[place]);
+                files.push(sheet::bytes_of(&changed));
+            }
+        }
+    }
+    for _ in 0..1_500 {
+        let nodes = random_size(random);
+        let mut blocks = random_blocks(nodes, random);
+        for _ in 0..random.between(1, 4) {
+            let place = random.below(blocks.len());
+            let index = match random.below(3) {
+                0 => random.below(4),
+                1 => random.below(BLOCK_WORDS),
+                _ => random.between(2, 253),
+            };
+            blocks[place][index] = match random.below(4) {
+                0 => 0,
+                1 => blocks[place][index].wrapping_add(1),
+                2 => random.below(1_026) as u16,
+                _ => random.word(),
+            };
+            if !random.once_in(6) {
+                sheet::close(&mut blocks[place]);
+            }
+        }
+        files.push(sheet::bytes_of(&blocks));
+    }
+    files
+}
+
+/// n and D at their bounds in files of several lengths.
+fn bounds_of_header(random: &mut Random) -> Vec<Vec<u8>> {
+    let mut files = Vec::new();
+    for nodes in [1, 63, 64, 1_024] {
+        let blocks = random_blocks(nodes, random);
+        for n in [0, 1, 62, 63, 64, 65, 1_023, 1_024, 1_025, 32_769, 65_535] {
+            for separation in [0, 1, 1_024, 1_025, 65_535] {
+                let mut changed = blocks.clone();
+                changed[0][2] = n;
+                changed[0][3] = separation;
+                sheet::close(&mut changed[0]);
+                files.push(sheet::bytes_of(&changed));
+            }
+        }
+    }
+    files
+}
+
+/// Whole blocks moved about, as they are and with their places mended.
+fn moved_blocks(random: &mut Random) -> Vec<Vec<u8>> {
+    let mut files = Vec::new();
+    for _ in 0..400 {
+        let nodes = random_size(random);
+        let mut blocks = random_blocks(nodes, random);
+        let (one, other) = (random.below(blocks.len()), random.below(blocks.len()));
+        match random.below(6) {
+            0 => blocks.swap(one, other),
+            1 => blocks[one] = blocks[other].clone(),
+            2 => blocks.insert(one, blocks[other].clone()),
+            3 => blocks[one].fill(0),
+            4 => random.shuffle(&mut blocks),
+            _ => {
+                blocks.remove(one);
+            }
+        }
+        files.push(sheet::bytes_of(&blocks));
+        for (place, block) in blocks.iter_mut().enumerate() {
+            block[0] = place as u16;
+            sheet::close(block);
+        }
+        files.push(sheet::bytes_of(&blocks));
+    }
+    files
+}
+
+/// Sound files cut off or followed by more, at block lengths and beside them, and at any.
+fn lengths(random: &mut Random) -> Vec<Vec<u8>> {
+    let mut lengths: Vec<usize> = (0..=MOST_BLOCKS + 2)
+        .flat_map(|blocks| {
+            let len = blocks * BLOCK_BYTES;
+            [len.saturating_sub(1), len, len + 1]
+        })
+        .collect();
+    lengths.extend((0..200).map(|_| random.below(MOST_RANDOM_BYTES)));
+    let mut files = Vec::new();
+    for len in lengths {
+        for nodes in [63, 1_024] {
+            let table = random_table(nodes, random);
+            let mut file = random_file(table, random);
+            file.resize(len, 0);
+            files.push(file);
+        }
+    }
+    files
+}
+
+/// Random bytes of any length, then blocks of them, mended so far that each later condition
+/// comes to be tried.
+fn random_inputs(random: &mut Random) -> Vec<Vec<u8>> {
+    let mut files = Vec::new();
+    for _ in 0..300 {
+        let len = random.between(0, MOST_RANDOM_BYTES);
+        files.push(random_bytes(len, random));
+    }
+    for _ in 0..700 {
+        let nodes = random_size(random);
+        let len = sheet::block_count(nodes) * BLOCK_BYTES;
+        let mut blocks = sheet::blocks_of(&random_bytes(len, random));
+        let mending = random.below(5);
+        for (place, block) in blocks.iter_mut().enumerate() {
+            if mending >= 2 {
+                block[0] = place as u16;
+            }
+            for (index, word) in block.iter_mut().enumerate() {
+                match sheet::fixed_word(nodes, place, index) {
+                    Some(value) if mending >= 4 => *word = value,
+                    _ => (),
+                }
+            }
+        }
+        if mending >= 3 {
+            blocks[0][2] = nodes as u16;
+            blocks[0][3] = random.between(1, 1_024) as u16;
+        }
+        if mending >= 1 {
+            blocks.iter_mut().for_each(|block| sheet::close(block));
+        }
+        files.push(sheet::bytes_of(&blocks));
+    }
+    files
+}
