@@ -2,9 +2,11 @@
 # Counts instructions by callgrind: a node for the table operations, for the layout and for the
 # published pointer method (its baseline, which does not check the table), a byte for the sheet
 # reader. Only the calls themselves count. The part `time` takes the time of a layout beside the
-# pointer method's and, where Debian's node-d3-hierarchy is installed, that of d3's tree.
+# pointer method's and, where Debian's node-d3-hierarchy is installed, that of d3's tree. The part
+# `listing` does both for the whole way from a sheet's bytes to its listing; it needs the program
+# `listing` too, from ../target/bin or the folder that HIWENOKA_BIN_DIR names.
 #
-# Usage: bench.sh [table] [sheet] [layout] [time]; all four if none is named.
+# Usage: bench.sh [table] [sheet] [layout] [time] [listing]; all five if none is named.
 set -euo pipefail
 cd "$(dirname "$0")"
 
@@ -14,7 +16,9 @@ fi
 
 programs="${CARGO_TARGET_DIR:-target}/release"
 counts="$(mktemp -d)"
-trap 'rm -rf "$counts"' EXIT
+results="$(mktemp -d)"
+trap 'rm -rf "$counts" "$results"' EXIT
+export NODE_PATH="${NODE_PATH:-/usr/share/nodejs}"
 
 # measure PROGRAM SYMBOL [OPERATION]: adds to each case of the program the instructions of its call,
 # the symbol's calls and their cases being in one order.
@@ -39,6 +43,51 @@ measure() {
         }
         echo "$line $instructions"
     done <"$counts/cases"
+}
+
+# count_program PROGRAM SHEET: the instructions of the whole program with the sheet as its input. Its
+# environment is empty, since the loader goes through it.
+count_program() {
+    env -i "$(command -v valgrind)" --tool=callgrind --callgrind-out-file="$counts/program" \
+        "$1" <"$2" 2>"$counts/messages" >"$counts/printed" || {
+        cat "$counts/messages" >&2
+        return 1
+    }
+    cmp "$counts/printed" "${2%.sheet}.listing" >&2 || return 1
+    awk '$1 == "totals:" { print $2 }' "$counts/program"
+}
+
+# split_call SHAPE: where the instructions of a listing go, of the calls that were last measured. The
+# text is what the call's own function does, since the compiler puts all its parts into that.
+split_call() {
+    local call
+    call="$(awk -v shape="$1" '$2 == shape { print NR }' "$counts/cases")"
+    callgrind_annotate --threshold=100 "$counts/call.$call" | awk -v shape="$1" '
+        { count = $1; gsub(",", "", count) }
+        / PROGRAM TOTALS/ { total = count }
+        /:sheet::read_sheet / { part["reading"] = count }
+        /:tree::judge::judge / { part["table check"] = count }
+        /:layout::layout / { part["layout"] = count }
+        /:hiwenoka_list_sheet / { part["text"] = count }
+        /:__memset_[^ ]* / { part["clearing"] += count }
+        END {
+            parts = split("reading,table check,layout,text,clearing", names, ",")
+            for (p = 1; p <= parts; p++) {
+                value = part[names[p]]
+                counted += value
+                line = line sprintf("%s %s %d (%.1f %%)", p > 1 ? "," : "", names[p], value, 100 * value / total)
+            }
+            # A function that is missing has been put into another one.
+            if (parts == length(part) && counted == total) print "Instructions of the call for " shape ":" line
+        }'
+}
+
+# has_d3: whether d3 is there; says so if it is not.
+has_d3() {
+    node -e 'require("d3-hierarchy")' 2>/dev/null || {
+        echo "d3: Debian's node-d3-hierarchy is not installed"
+        return 1
+    }
 }
 
 # report TITLE: a row for each operation and shape, a column for each size, and the greatest figure
@@ -76,7 +125,7 @@ build() {
 }
 
 if [ $# -eq 0 ]; then
-    set -- table sheet layout time
+    set -- table sheet layout time listing
 fi
 for part in "$@"; do
     case "$part" in
@@ -109,11 +158,8 @@ for part in "$@"; do
         build time_layout
         "$programs/time_layout" run >"$counts/ours"
         echo "shape d3" >"$counts/d3"
-        export NODE_PATH="${NODE_PATH:-/usr/share/nodejs}"
-        if node -e 'require("d3-hierarchy")' 2>/dev/null; then
+        if has_d3; then
             "$programs/time_layout" trees | node d3.js >>"$counts/d3"
-        else
-            echo "d3: Debian's node-d3-hierarchy is not installed"
         fi
         echo "Layout of 1,024 nodes: nanoseconds, and how many times as long the others take; of d3, the tree"
         echo "alone, and with its hierarchy, which is built from the nodes as a layout builds on a table"
@@ -124,6 +170,43 @@ for part in "$@"; do
                 if ($1 in tree) printf " %9d %7.1f %9d %7.1f", tree[$1], tree[$1] / $2, whole[$1], whole[$1] / $2
                 print ""
             }' "$counts/d3" "$counts/ours"
+        ;;
+    listing)
+        build bench_listing
+        measure bench_listing hiwenoka_list_sheet library >"$results/library"
+        split_call random >"$results/split"
+        measure bench_listing plain_by_hand hand >"$results/hand"
+        "$programs/bench_listing" sheets "$results"
+        while read -r _ shape _; do
+            instructions="$(count_program "${HIWENOKA_BIN_DIR:-../target/bin}/listing" "$results/$shape.sheet")"
+            echo "$shape $instructions"
+        done <"$results/library" >"$results/program"
+        "$programs/bench_listing" time >"$results/time"
+        touch "$results/d3"
+        if has_d3; then
+            node d3_listing.js "$results" >"$results/d3"
+        fi
+        echo "Whole way of a sheet of 1,024 nodes, from its bytes to its listing (D = 5, tape numbers of up to 32 bits)"
+        echo "instructions: one call of hiwenoka_list_sheet, and a node; by hand; the whole program, its start included"
+        echo "time: nanoseconds of one call, and how many times as long the others take in the same run"
+        echo "  model    the Rust reference: the written rule, taken literally"
+        echo "  write!   a plain Rust program: no checks, the published pointer method, lines by write! into a Vec<u8>"
+        echo "  by hand  the same with lines by hand, two digits at a time"
+        echo "  d3       JavaScript: no checks, d3's hierarchy and tree, the text as one string"
+        printf "%-12s %8s %8s %8s %8s %9s %7s %7s %8s %7s\n" \
+            "" call "a node" "by hand" program ns model "write!" "by hand" d3
+        awk '
+            FILENAME ~ "/library$" { nodes[$2] = $4; call[$2] = $5; next }
+            FILENAME ~ "/hand$" { hand[$2] = $5; next }
+            FILENAME ~ "/program$" { program[$1] = $2; next }
+            FILENAME ~ "/d3$" { d3[$1] = $2; next }
+            {
+                printf "%-12s %8d %8.1f %8d %8d", $1, call[$1], call[$1] / nodes[$1], hand[$1], program[$1]
+                printf " %9d %7.1f %7.2f %8.2f", $2, $3 / $2, $4 / $2, $5 / $2
+                if ($1 in d3) printf " %7.1f", d3[$1] / $2
+                print ""
+            }' "$results/library" "$results/hand" "$results/program" "$results/d3" "$results/time"
+        cat "$results/split"
         ;;
     *)
         echo "bench.sh: no part named $part" >&2

@@ -25,4 +25,5 @@ fn main() {
     println!("cargo:rustc-link-arg-bin=bench_sheet={archive}");
     println!("cargo:rustc-link-arg-bin=bench_layout={archive}");
     println!("cargo:rustc-link-arg-bin=time_layout={archive}");
+    println!("cargo:rustc-link-arg-bin=bench_listing={archive}");
 }

@@ -9,6 +9,7 @@ pub mod files;
 pub mod layout;
 pub mod lent;
 pub mod listing;
+pub mod plain;
 pub mod pointer;
 pub mod program;
 pub mod random;
