@@ -1,7 +1,7 @@
 -- The equations of the decimal digits, and how many there are. Assumes nothing.
 use mathlib.Core.Path.{_≡_, refl, sym, ap, _∙_}
 use Prim.Native.Nat.{ℕ, zero, suc, _+_, _-_, _*_, _/_, _%_, _≤_, _<_}
-use native.Mathlib.Nat.{lt-of-not-le, le-refl, le-div-iff-mul-le, div-lt-iff-lt-mul, div-div-eq-div-mul}
+use native.Mathlib.Nat.{lt-of-not-le, le-refl}
 use native.Mathlib.Numerals.{add-one}
 use native.Mathlib.Decide.{decLe}
 use native.Mathlib.Omega.{arith}
@@ -67,14 +67,22 @@ size-small n h = ap length (decimal-small n h)
 pub size-large : (n : ℕ) → 10 ≤ n → length (decimal n) ≡ length (decimal (n / 10)) + 1
 size-large n h = ap length (decimal-large n h) ∙ length-append (decimal (n / 10)) (digit (n % 10) ∷ [])
 
--- the count of digits, by a power of ten that grows
-pub size-more : (n power : ℕ) → 0 < power → power * 10 ≤ n → length (decimal (n / power)) ≡ length (decimal (n / (power * 10))) + 1
-size-more n power some within =
-    let ten : 10 ≤ n / power = le-div-iff-mul-le some .1 (omega arith) in
-    size-large (n / power) ten ∙ ap (λ (k : ℕ). length (decimal k) + 1) (div-div-eq-div-mul n power 10)
+-- a power of ten
+abbrev pub tens : ℕ → ℕ
+tens zero = 1
+tens (suc k) = tens k * 10
 
-pub size-last : (n power : ℕ) → 0 < power → n < power * 10 → length (decimal (n / power)) ≡ 1
-size-last n power some past = size-small (n / power) (div-lt-iff-lt-mul some .1 (omega arith))
+-- from a power of ten up to the next
+pub size-between : (k n : ℕ) → tens k ≤ n → n < tens (suc k) → length (decimal n) ≡ suc k
+size-between zero n low high = size-small n (omega arith)
+size-between (suc k) n low high =
+    let fewer : length (decimal (n / 10)) ≡ suc k = size-between k (n / 10) (omega arith) (omega arith) in
+    let some : 1 ≤ tens k = tens-some k in
+    omega (arith, size-large n (omega arith))
+  where
+    tens-some : (j : ℕ) → 1 ≤ tens j
+    tens-some zero = omega arith
+    tens-some (suc j) = omega (arith, tens-some j)
 
 -- ---- the last digits
 

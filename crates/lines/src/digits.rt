@@ -13,14 +13,34 @@ const ZERO_BYTE: u8 = b'0';
 fn digit_count(number: u32) -> usize
     ensures { λ r. ⌜ r ≡ length (decimal number) ⌝ }
 {
-    let wide = number as u64;
-    let mut power: u64 = 1;
-    let mut count: usize = 1;
-    while power * 10 <= wide {
-        power *= 10;
-        count += 1;
+    if number < 10 {
+        return 1;
     }
-    count
+    if number < 100 {
+        return 2;
+    }
+    if number < 1000 {
+        return 3;
+    }
+    if number < 10000 {
+        return 4;
+    }
+    if number < 100000 {
+        return 5;
+    }
+    if number < 1000000 {
+        return 6;
+    }
+    if number < 10000000 {
+        return 7;
+    }
+    if number < 100000000 {
+        return 8;
+    }
+    if number < 1000000000 {
+        return 9;
+    }
+    10
 }
 
 // Stores the last `count` digits of a number from `at` on.

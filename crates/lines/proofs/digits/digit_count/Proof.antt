@@ -1,51 +1,51 @@
--- `digits::digit_count` counts the decimal digits. The invariant: `count` and the digits of the number over `power` are one more than all.
--- Assumes nothing.
-use mathlib.Core.Path.{_≡_, ap}
-use Prim.Native.Nat.{ℕ, _+_, _-_, _/_, _≤_, _<_}
-use native.Mathlib.Nat.{div-one}
-use lib.ListN.{length}
-use Rattle.lines.specs.Decimal.{decimal}
-use Rattle.lines.proofs.Decimal.{size-more, size-last}
+-- `digits::digit_count` counts the decimal digits: each test is passed by the numbers below one more power of ten. Assumes nothing.
+use mathlib.Core.Path.{sym}
 use native.Mathlib.Omega.{arith}
+use Rattle.lines.proofs.Decimal.{size-small, size-between}
 use Rattle.lines.proofs.digits.digit_count.Statement.{statement}
 use Rattle.lines.proofs.digits.digit_count.Tie as tie
 
-abbrev Inv-loop : tie.InvT-loop
-Inv-loop number wide power₀ count₀ power count =
-    (0 < power) × (power ≤ number + 1) × (count ≤ power) × (count + length (decimal (number / power)) ≡ length (decimal number) + 1)
+returns : tie.Need-returns
+returns c = sym (size-small _ (c .if1 .taken))
 
-abbrev μ-loop : tie.MeasureT-loop
-μ-loop number wide power₀ count₀ power count = number - power
+returns-2 : tie.Need-returns-2
+returns-2 c = sym (size-between 1 _ (c .before .if1 .left) (c .if2 .taken))
 
-loop-holds : tie.Need-loop-holds Inv-loop μ-loop
-loop-holds c = (
-  omega arith,
-  omega arith,
-  omega arith,
-  omega (arith, ap (λ (k : ℕ). length (decimal k)) (div-one (c .args .number))),
-)
+returns-3 : tie.Need-returns-3
+returns-3 c = sym (size-between 2 _ (c .before .if2 .left) (c .if3 .taken))
 
-mul-loop : tie.Need-mul-loop Inv-loop μ-loop
-mul-loop c = omega arith
+returns-4 : tie.Need-returns-4
+returns-4 c = sym (size-between 3 _ (c .before .if3 .left) (c .if4 .taken))
 
-mul-power : tie.Need-mul-power Inv-loop μ-loop
-mul-power c = omega arith
+returns-5 : tie.Need-returns-5
+returns-5 c = sym (size-between 4 _ (c .before .if4 .left) (c .if5 .taken))
 
-add-count : tie.Need-add-count Inv-loop μ-loop
-add-count c = omega arith
+returns-6 : tie.Need-returns-6
+returns-6 c = sym (size-between 5 _ (c .before .if5 .left) (c .if6 .taken))
 
-loop-less : tie.Need-loop-less Inv-loop μ-loop
-loop-less c = omega arith
+returns-7 : tie.Need-returns-7
+returns-7 c = sym (size-between 6 _ (c .before .if6 .left) (c .if7 .taken))
 
-loop-again : tie.Need-loop-again Inv-loop μ-loop
-loop-again c =
-    let head = c .before in
-    (omega arith, omega arith, omega arith, omega (arith, size-more (head .before .args .number) (head .loop .power) (head .loop .inv .0) (c .loop-test .taken)))
+returns-8 : tie.Need-returns-8
+returns-8 c = sym (size-between 7 _ (c .before .if7 .left) (c .if8 .taken))
 
-returns : tie.Need-returns Inv-loop μ-loop
-returns c = omega (arith, size-last (c .before .before .args .number) (c .before .loop .power) (c .before .loop .inv .0) (c .loop-test .left))
+returns-9 : tie.Need-returns-9
+returns-9 c = sym (size-between 8 _ (c .before .if8 .left) (c .if9 .taken))
+
+returns-10 : tie.Need-returns-10
+returns-10 c = sym (size-between 9 _ (c .if9 .left) (omega arith))
 
 pub digit-count-spec : {M : Type 1} → statement M
 digit-count-spec =
     tie.close
-    (tie.spec Inv-loop μ-loop loop-holds mul-loop mul-power add-count loop-less loop-again returns)
+    (tie.spec
+    returns
+    returns-2
+    returns-3
+    returns-4
+    returns-5
+    returns-6
+    returns-7
+    returns-8
+    returns-9
+    returns-10)
