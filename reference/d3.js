@@ -1,19 +1,7 @@
 // The time of d3's tree: reads the trees of `time_layout trees`, and prints for each its shape and the nanoseconds of a layout, first
 // with the hierarchy built before the clock starts and then from the bare nodes; each the least of many batches.
 const { hierarchy, tree } = require("d3-hierarchy");
-
-const BATCHES = 40;
-const CALLS = 5;
-
-function least(call) {
-  let time = Infinity;
-  for (let batch = 0; batch < BATCHES; batch++) {
-    const start = process.hrtime.bigint();
-    for (let count = 0; count < CALLS; count++) call();
-    time = Math.min(time, Number(process.hrtime.bigint() - start) / CALLS);
-  }
-  return time.toFixed(0);
-}
+const { least } = require("./least.js");
 
 for (const line of require("fs").readFileSync(0, "utf8").trim().split("\n")) {
   const [shape, ...parents] = line.split(" ");

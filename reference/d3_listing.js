@@ -6,9 +6,7 @@ const { strictEqual } = require("assert");
 const { hierarchy, tree } = require("d3-hierarchy");
 const { readdirSync, readFileSync } = require("fs");
 const { basename, join } = require("path");
-
-const BATCHES = 40;
-const CALLS = 5;
+const { least } = require("./least.js");
 
 const NONE = 65535;
 const BLOCK_BYTES = 512;
@@ -50,16 +48,6 @@ function listing(file) {
 
 function withoutPlaces(text) {
   return text.replace(/^(sheet \d+ \d+ \d+) .*/, "$1").replace(/^(\d+ \d+) \S+/gm, "$1");
-}
-
-function least(call) {
-  let time = Infinity;
-  for (let batch = 0; batch < BATCHES; batch++) {
-    const start = process.hrtime.bigint();
-    for (let count = 0; count < CALLS; count++) call();
-    time = Math.min(time, Number(process.hrtime.bigint() - start) / CALLS);
-  }
-  return time.toFixed(0);
 }
 
 const folder = process.argv[2];

@@ -101,30 +101,12 @@ fn random_blocks(nodes: usize, random: &mut Random) -> Vec<Vec<u16>> {
     sheet::blocks_of(&random_file(table, random))
 }
 
-fn random_bytes(len: usize, random: &mut Random) -> Vec<u8> {
-    (0..len).map(|_| random.bits() as u8).collect()
-}
-
 fn sound_sheets(random: &mut Random) -> Vec<Vec<u8>> {
     let mut tables = Vec::new();
     for nodes in 1..=6 {
         tables.extend(shapes::every_tree(nodes));
     }
-    for shape in &SHAPES {
-        let mut sizes: Vec<usize> = (1..=12).collect();
-        sizes.extend([62, 63, 64, 65, 126, 127, 1_008, 1_009, 1_023, 1_024]);
-        sizes.extend((0..20).map(|_| random.between(13, 300)));
-        sizes.extend((0..10).map(|_| random.between(301, 1_024)));
-        for nodes in sizes {
-            let table = (shape.make)(nodes, random);
-            tables.push(shapes::renumbered_at_random(&table, random));
-            tables.push(table);
-        }
-    }
-    for family in [shapes::contour_family, shapes::share_family] {
-        tables.extend((1..8).map(family));
-        tables.push(shapes::largest(family, 1_024));
-    }
+    tables.extend(shapes::of_many_sizes(12, 20, 10, random));
     for _ in 0..1_000 {
         let nodes = random_size(random);
         tables.push(random_table(nodes, random));
@@ -210,23 +192,7 @@ fn changed_words(random: &mut Random) -> Vec<Vec<u8>> {
     for _ in 0..1_500 {
         let nodes = random_size(random);
         let mut blocks = random_blocks(nodes, random);
-        for _ in 0..random.between(1, 4) {
-            let place = random.below(blocks.len());
-            let index = match random.below(3) {
-                0 => random.below(4),
-                1 => random.below(BLOCK_WORDS),
-                _ => random.between(2, 253),
-            };
-            blocks[place][index] = match random.below(4) {
-                0 => 0,
-                1 => blocks[place][index].wrapping_add(1),
-                2 => random.below(1_026) as u16,
-                _ => random.word(),
-            };
-            if !random.once_in(6) {
-                sheet::close(&mut blocks[place]);
-            }
-        }
+        change_words(&mut blocks, random);
         files.push(sheet::bytes_of(&blocks));
     }
     files
@@ -298,38 +264,63 @@ fn lengths(random: &mut Random) -> Vec<Vec<u8>> {
     files
 }
 
-/// Random bytes of any length, then blocks of them, mended so far that each later condition
-/// comes to be tried.
+/// Changes one to four words, and closes most of the blocks again.
+pub fn change_words(blocks: &mut [Vec<u16>], random: &mut Random) {
+    for _ in 0..random.between(1, 4) {
+        let place = random.below(blocks.len());
+        let index = match random.below(3) {
+            0 => random.below(4),
+            1 => random.below(BLOCK_WORDS),
+            _ => random.between(2, 253),
+        };
+        blocks[place][index] = match random.below(4) {
+            0 => 0,
+            1 => blocks[place][index].wrapping_add(1),
+            2 => random.below(1_026) as u16,
+            _ => random.word(),
+        };
+        if !random.once_in(5) {
+            sheet::close(&mut blocks[place]);
+        }
+    }
+}
+
+/// Random blocks for so many nodes, mended so far that each later condition comes to be tried.
+pub fn mended_by_steps(nodes: usize, random: &mut Random) -> Vec<u8> {
+    let len = sheet::block_count(nodes) * BLOCK_BYTES;
+    let mut blocks = sheet::blocks_of(&random.bytes(len));
+    let mending = random.below(5);
+    for (place, block) in blocks.iter_mut().enumerate() {
+        if mending >= 2 {
+            block[0] = place as u16;
+        }
+        for (index, word) in block.iter_mut().enumerate() {
+            match sheet::fixed_word(nodes, place, index) {
+                Some(value) if mending >= 4 => *word = value,
+                _ => (),
+            }
+        }
+    }
+    if mending >= 3 {
+        blocks[0][2] = nodes as u16;
+        blocks[0][3] = random.between(1, 1_024) as u16;
+    }
+    if mending >= 1 {
+        blocks.iter_mut().for_each(|block| sheet::close(block));
+    }
+    sheet::bytes_of(&blocks)
+}
+
+/// Random bytes of any length, then blocks of them, mended by steps.
 fn random_inputs(random: &mut Random) -> Vec<Vec<u8>> {
     let mut files = Vec::new();
     for _ in 0..300 {
         let len = random.between(0, MOST_RANDOM_BYTES);
-        files.push(random_bytes(len, random));
+        files.push(random.bytes(len));
     }
     for _ in 0..700 {
         let nodes = random_size(random);
-        let len = sheet::block_count(nodes) * BLOCK_BYTES;
-        let mut blocks = sheet::blocks_of(&random_bytes(len, random));
-        let mending = random.below(5);
-        for (place, block) in blocks.iter_mut().enumerate() {
-            if mending >= 2 {
-                block[0] = place as u16;
-            }
-            for (index, word) in block.iter_mut().enumerate() {
-                match sheet::fixed_word(nodes, place, index) {
-                    Some(value) if mending >= 4 => *word = value,
-                    _ => (),
-                }
-            }
-        }
-        if mending >= 3 {
-            blocks[0][2] = nodes as u16;
-            blocks[0][3] = random.between(1, 1_024) as u16;
-        }
-        if mending >= 1 {
-            blocks.iter_mut().for_each(|block| sheet::close(block));
-        }
-        files.push(sheet::bytes_of(&blocks));
+        files.push(mended_by_steps(nodes, random));
     }
     files
 }

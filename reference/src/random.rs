@@ -34,6 +34,10 @@ impl Random {
         self.bits() as u16
     }
 
+    pub fn bytes(&mut self, len: usize) -> Vec<u8> {
+        (0..len).map(|_| self.bits() as u8).collect()
+    }
+
     /// True once in `count` times.
     pub fn once_in(&mut self, count: usize) -> bool {
         self.below(count) == 0

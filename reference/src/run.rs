@@ -2,7 +2,7 @@
 
 use crate::random::{seed, Random};
 use std::collections::BTreeMap;
-use std::fmt::{Debug, Display};
+use std::fmt::{self, Debug, Display};
 use std::io::Write;
 
 pub struct Run {
@@ -98,6 +98,17 @@ impl Run {
             say(format_args!("{name}: {count:>8} gave {number}"));
         }
         assert!(calls >= least_calls, "fewer than {least_calls} calls");
+    }
+}
+
+/// A table in the message of a failure: its length and its first entries.
+pub struct Shown<'a>(pub &'a [u16]);
+
+impl Display for Shown<'_> {
+    fn fmt(&self, f: &mut fmt::Formatter) -> fmt::Result {
+        let entries = self.0;
+        let first = &entries[..entries.len().min(256)];
+        write!(f, "a table of {} entries: {first:?}", entries.len())
     }
 }
 

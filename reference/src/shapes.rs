@@ -395,6 +395,38 @@ pub fn damaged(table: &[u16], count: usize, random: &mut Random) -> Vec<u16> {
     damaged
 }
 
+/// Sizes for a table, between 1 and the greatest: all up to `small`, those beside a full block of a sheet file, and so many at random below
+/// and above 300.
+fn sizes(small: usize, middling: usize, large: usize, random: &mut Random) -> Vec<usize> {
+    let mut sizes: Vec<usize> = (1..=small).collect();
+    sizes.extend([62, 63, 64, 65, 126, 127, 1_008, 1_009, 1_023, 1_024]);
+    sizes.extend((0..middling).map(|_| random.between(small + 1, 300)));
+    sizes.extend((0..large).map(|_| random.between(301, 1_024)));
+    sizes
+}
+
+/// Every shape in many sizes, as it is and with other numbers, and the families of document 004.
+pub fn of_many_sizes(
+    small: usize,
+    middling: usize,
+    large: usize,
+    random: &mut Random,
+) -> Vec<Vec<u16>> {
+    let mut tables = Vec::new();
+    for shape in &SHAPES {
+        for nodes in sizes(small, middling, large, random) {
+            let table = (shape.make)(nodes, random);
+            tables.push(renumbered_at_random(&table, random));
+            tables.push(table);
+        }
+    }
+    for family in [contour_family, share_family] {
+        tables.extend((1..8).map(family));
+        tables.push(largest(family, 1_024));
+    }
+    tables
+}
+
 /// One tree of each shape and of both families of document 004, of at most so many nodes, by name.
 pub fn trees_of_each_shape(nodes: usize, random: &mut Random) -> Vec<(&'static str, Vec<u16>)> {
     let mut trees: Vec<_> = SHAPES

@@ -7,7 +7,7 @@
 use reference::ffi::{self, Fields};
 use reference::layout::{self, Slices};
 use reference::lent::{Entry, Lent};
-use reference::run::Run;
+use reference::run::{Run, Shown};
 use reference::shapes::{self, SHAPES};
 use reference::table::NONE;
 use std::fmt;
@@ -49,9 +49,8 @@ impl fmt::Display for Call<'_> {
         } = self;
         write!(
             f,
-            "layout with separation {separation}, {lengths:?}, a table of {} entries: {:?}",
-            table.len(),
-            &table[..table.len().min(256)]
+            "layout with separation {separation}, {lengths:?}, {}",
+            Shown(table)
         )
     }
 }
@@ -208,23 +207,7 @@ impl Comparison {
 
     /// Every shape in many sizes, as it is and with other numbers; then the same damaged.
     fn shapes(&mut self) {
-        let mut tables = Vec::new();
-        for shape in &SHAPES {
-            let random = &mut self.run.random;
-            let mut sizes: Vec<usize> = (1..=40).collect();
-            sizes.extend((0..40).map(|_| random.between(41, 300)));
-            sizes.extend((0..8).map(|_| random.between(301, 1_024)));
-            sizes.extend([1_023, 1_024]);
-            for nodes in sizes {
-                let table = (shape.make)(nodes, random);
-                tables.push(shapes::renumbered_at_random(&table, random));
-                tables.push(table);
-            }
-        }
-        for family in [shapes::contour_family, shapes::share_family] {
-            tables.extend((1..8).map(family));
-            tables.push(shapes::largest(family, 1_024));
-        }
+        let tables = shapes::of_many_sizes(40, 40, 8, &mut self.run.random);
         for table in &tables {
             for separation in [1, 1_024, self.separation()] {
                 let number = self.exact(table, separation);

@@ -5,6 +5,7 @@
 //! entry past those named must be as it was.
 
 use reference::ffi;
+use reference::files;
 use reference::lent::Lent;
 use reference::random::Random;
 use reference::run::Run;
@@ -38,10 +39,6 @@ fn random_sheet(nodes: usize, random: &mut Random) -> Sheet {
         table: (0..2 * nodes).map(|_| random.word()).collect(),
         tapes: (0..2 * nodes).map(|_| random.word()).collect(),
     }
-}
-
-fn random_bytes(len: usize, random: &mut Random) -> Vec<u8> {
-    (0..len).map(|_| random.bits() as u8).collect()
 }
 
 /// The greatest count of nodes in a file of so many blocks.
@@ -276,7 +273,7 @@ impl Comparison {
                 // A sound file cut off or followed by zeros, zeros alone, and random bytes.
                 let mut cut = sheet::write(&random_sheet(nodes, &mut self.run.random));
                 cut.resize(len, 0);
-                for file in [cut, vec![0; len], random_bytes(len, &mut self.run.random)] {
+                for file in [cut, vec![0; len], self.run.random.bytes(len)] {
                     let number = self.read(&file, 2 * nodes, 2 * nodes);
                     let refused = len % 512 != 0 || !(1_024..=9_216).contains(&len);
                     self.run.expect(
@@ -297,29 +294,9 @@ impl Comparison {
             let random = &mut self.run.random;
             let count = random.between(2, MOST_BLOCKS);
             let nodes = most_nodes(count) - random.below(16);
-            let file = random_bytes(count * BLOCK_BYTES, random);
-            let mut blocks = sheet::blocks_of(&file);
-            let mending = random.below(5);
-            for (place, block) in blocks.iter_mut().enumerate() {
-                if mending >= 2 {
-                    block[0] = place as u16;
-                }
-                for (index, word) in block.iter_mut().enumerate() {
-                    match sheet::fixed_word(nodes, place, index) {
-                        Some(value) if mending >= 4 => *word = value,
-                        _ => (),
-                    }
-                }
-            }
-            if mending >= 3 {
-                blocks[0][2] = nodes as u16;
-                blocks[0][3] = random.between(1, 1_024) as u16;
-            }
-            if mending >= 1 {
-                blocks.iter_mut().for_each(|block| sheet::close(block));
-            }
+            let file = files::mended_by_steps(nodes, random);
             let slice_len = 2 * nodes - random.below(2);
-            self.read(&sheet::bytes_of(&blocks), slice_len, 2 * nodes);
+            self.read(&file, slice_len, 2 * nodes);
         }
         self.run.end_section("random bytes, mended by steps");
     }
@@ -334,23 +311,7 @@ impl Comparison {
             };
             let sheet = random_sheet(nodes, random);
             let mut blocks = sheet::blocks_of(&sheet::write(&sheet));
-            for _ in 0..random.between(1, 4) {
-                let place = random.below(blocks.len());
-                let index = match random.below(3) {
-                    0 => random.below(4),
-                    1 => random.below(BLOCK_WORDS),
-                    _ => random.between(2, 253),
-                };
-                blocks[place][index] = match random.below(4) {
-                    0 => 0,
-                    1 => blocks[place][index].wrapping_add(1),
-                    2 => random.below(1_026) as u16,
-                    _ => random.word(),
-                };
-                if !random.once_in(4) {
-                    sheet::close(&mut blocks[place]);
-                }
-            }
+            files::change_words(&mut blocks, random);
             let table_len = 2 * nodes + 1 - random.below(3);
             let tapes_len = 2 * nodes + 1 - random.below(3);
             self.read(&sheet::bytes_of(&blocks), table_len, tapes_len);

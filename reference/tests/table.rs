@@ -6,7 +6,7 @@
 
 use reference::ffi;
 use reference::lent::Lent;
-use reference::run::Run;
+use reference::run::{Run, Shown};
 use reference::shapes::{self, SHAPES};
 use reference::table::{self, NONE};
 use std::fmt;
@@ -29,9 +29,8 @@ impl fmt::Display for Call<'_> {
         } = self;
         write!(
             f,
-            "{operation} with out_len {out_len}, map_len {map_len}, a table of {} entries: {:?}",
-            table.len(),
-            &table[..table.len().min(256)]
+            "{operation} with out_len {out_len}, map_len {map_len}, {}",
+            Shown(table)
         )
     }
 }
@@ -168,23 +167,7 @@ impl Comparison {
 
     /// Every shape in many sizes, as it is and with other numbers; then the same damaged.
     fn shapes(&mut self) {
-        let mut tables = Vec::new();
-        for shape in &SHAPES {
-            let random = &mut self.run.random;
-            let mut sizes: Vec<usize> = (1..=40).collect();
-            sizes.extend((0..60).map(|_| random.between(41, 300)));
-            sizes.extend((0..30).map(|_| random.between(301, 1_024)));
-            sizes.extend([1_023, 1_024]);
-            for nodes in sizes {
-                let table = (shape.make)(nodes, random);
-                tables.push(shapes::renumbered_at_random(&table, random));
-                tables.push(table);
-            }
-        }
-        for family in [shapes::contour_family, shapes::share_family] {
-            tables.extend((1..8).map(family));
-            tables.push(shapes::largest(family, 1_024));
-        }
+        let tables = shapes::of_many_sizes(40, 60, 30, &mut self.run.random);
         for table in &tables {
             let number = self.check(table);
             self.run.expect("number", number, 0, &"a well-formed table");
