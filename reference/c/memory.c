@@ -1,5 +1,5 @@
 /*
- * Calls the library's five functions on very many inputs, every slice and every result lent from
+ * Calls each of the library's functions on very many inputs, every slice and every result lent from
  * memory of exactly its length.
  *
  *     memory guarded ROUNDS SEED   each input twice: slices end at a page that cannot be accessed,
@@ -16,13 +16,13 @@
 #include <stdlib.h>
 #include <string.h>
 
-enum operation { CHECK, LAYOUT, MIRROR, RENUMBER, READ, OPERATIONS };
+enum operation { CHECK, LAYOUT, MIRROR, RENUMBER, READ, LIST, OPERATIONS };
 
-static const char *const names[OPERATIONS] = {"check_table", "layout", "mirror", "renumber",
-                                              "read_sheet"};
+static const char *const names[OPERATIONS] = {"check_table", "layout",     "mirror",
+                                              "renumber",    "read_sheet", "list_sheet"};
 
 /* The numbers that each operation can give, as bits. */
-static const unsigned possible[OPERATIONS] = {0x3f, 0x1ff, 0xbf, 0xbf, 0x1e81};
+static const unsigned possible[OPERATIONS] = {0x3f, 0x1ff, 0xbf, 0xbf, 0x1e81, 0x1ebd};
 
 /* The number that a call must give is not known. */
 enum { ANY = 13 };
@@ -130,6 +130,28 @@ static void read_sheet(const uint8_t *bytes, size_t len, size_t table_len, size_
     expect_written(&tapes, 4 * n);
 }
 
+/* The number that a listing says; 7, for want of room, is said by no text. ANY if it says none. */
+static unsigned number_in(const char *text, size_t bytes)
+{
+    for (unsigned number = 1; number < ANY; number++) {
+        char line[16];
+        size_t len = number == 7 ? 0 : (size_t)sprintf(line, "refused %u\n", number);
+        if (bytes == len && memcmp(text, line, len) == 0) {
+            return number;
+        }
+    }
+    return memcmp(text, "sheet ", 6) == 0 ? 0 : ANY;
+}
+
+static void list_sheet(const uint8_t *bytes, size_t len, size_t out_len, unsigned wanted)
+{
+    take_back(placing);
+    struct lent file = lend_input(bytes, len), out = lend_output(out_len);
+    size_t written = hiwenoka_list_sheet(file.start, len, out.start, out_len);
+    expect_written(&out, written);
+    expect_number(LIST, &file, number_in(out.start, written), wanted);
+}
+
 /* Often a small one. */
 static uint16_t some_separation(void)
 {
@@ -161,13 +183,22 @@ static void wrong_lengths(void)
     every_operation(table, lengths[below(6)], 1);
 }
 
+/* A file's listing, with just enough room and with too little. */
+static void listings(const uint8_t *file, size_t bytes, unsigned wanted)
+{
+    list_sheet(file, bytes, HIWENOKA_TEXT_ROOM, wanted);
+    list_sheet(file, bytes, below(4) == 0 ? 0 : HIWENOKA_TEXT_ROOM - 1, 7);
+}
+
 static void damaged_tables(const uint16_t *table, size_t nodes)
 {
     uint16_t damaged[2 * MOST_NODES];
+    uint8_t file[MOST_FILE];
     for (unsigned number = 2; number <= (nodes == 1 ? 4 : 5); number++) {
         memcpy(damaged, table, 4 * nodes);
         damage_tree(damaged, nodes, number);
         every_operation(damaged, 2 * nodes, number);
+        listings(file, make_sheet(file, damaged, nodes, some_separation()), number);
     }
     memcpy(damaged, table, 4 * nodes);
     for (size_t count = 1 + below(4); count > 0; count--) {
@@ -213,10 +244,13 @@ static void sheets(const uint16_t *table, size_t nodes)
     read_sheet(file, bytes, len - shorter, len, 7);
     read_sheet(file, bytes, len, len - shorter, 7);
     read_sheet(file, bytes, len + 1 + below(9), len + 1 + below(9), 0);
+    listings(file, bytes, 0);
+    list_sheet(file, bytes, HIWENOKA_TEXT_ROOM + 1 + below(9), 0);
     for (unsigned number = 9; number <= 12; number++) {
         memcpy(damaged, file, sizeof file);
         size_t damaged_bytes = damage_sheet(damaged, bytes, number);
         read_sheet(damaged, damaged_bytes, len, len, number);
+        listings(damaged, damaged_bytes, number);
     }
 }
 
