@@ -140,9 +140,13 @@ void draw(const uint16_t *table, size_t nodes, int32_t separation, struct drawin
     drawing->widest = widest;
     /* Step 6. */
     move_right(0, -place[0]);
+    drawing->least = drawing->greatest = 0;
     for (size_t position = 0; position < nodes; position++) {
         uint16_t node = node_at[position];
         drawing->place[node] = place[position];
+        drawing->least = place[position] < drawing->least ? place[position] : drawing->least;
+        drawing->greatest
+            = place[position] > drawing->greatest ? place[position] : drawing->greatest;
         /* The pairs that step 3 measures are the neighbours. */
         uint16_t right = measured[position] == 0 ? NONE : node_at[measured[position]];
         if (drawing->right[node] != right) {

@@ -15,9 +15,10 @@ unsigned sheet_number(const uint8_t *file, size_t bytes, size_t table_len, size_
 /* The nodes of a well-formed table, parent first, then the children's subtrees left to right. */
 void number_parents_first(const uint16_t *table, uint16_t *order);
 
-/* By node number, but for the counts. */
+/* By node number, but for the counts and the extremes. */
 struct drawing {
     size_t level_count, pairs;
+    int32_t least, greatest;
     uint16_t level[MOST_NODES];
     uint16_t right[MOST_NODES]; /* the right neighbour, or NONE */
     int32_t place[MOST_NODES];

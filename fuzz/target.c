@@ -2,7 +2,7 @@
  * Takes an input as one call of the library, makes the call on slices of exactly their lengths
  * beside pages that cannot be accessed, and holds all that came of it against the paper. An input:
  *
- *     byte 0         the operation, modulo 5
+ *     byte 0         the operation, modulo 6
  *     byte 1         what is done to the rest, see the bits below
  *     bytes 2, 3     the separation, low byte first, as are all words
  *     bytes 4 to 7   for each slice that is written, how many entries more than needed, signed
@@ -15,6 +15,7 @@
 #include "../reference/c/lent.h"
 #include "../reference/c/random.h"
 #include "paper.h"
+#include <stdio.h>
 #include <string.h>
 
 enum {
@@ -241,19 +242,15 @@ static void layout(const struct input *input, const uint16_t *entries, size_t le
              : work_len < 16 * n                                              ? 8
                                                                               : 0;
     expect_number(&table, number, wanted);
-    int32_t leftmost = 0, rightmost = 0;
     if (number != 0) {
         n = 0;
         drawing.level_count = drawing.pairs = 0;
+        drawing.least = drawing.greatest = 0;
     } else {
         draw(entries, n, input->separation, &drawing);
         drawn[0][digits(n)][digits(drawing.level_count)] = 1;
         drawn[1][digits(drawing.conflicts)][digits(drawing.widest)] = 1;
         expect_promises(entries, places.start, n, input->separation, &drawing);
-    }
-    for (size_t node = 0; node < n; node++) {
-        leftmost = drawing.place[node] < leftmost ? drawing.place[node] : leftmost;
-        rightmost = drawing.place[node] > rightmost ? drawing.place[node] : rightmost;
     }
     expect(memcmp(places.start, drawing.place, 4 * n) == 0, "the places are those of the rule");
     expect_written(&places, 4 * n);
@@ -266,8 +263,18 @@ static void layout(const struct input *input, const uint16_t *entries, size_t le
     expect_word(&nodes, n);
     expect_word(&level_count, drawing.level_count);
     expect_word(&pairs, drawing.pairs);
-    expect(*(int32_t *)least.start == leftmost, "the least place");
-    expect(*(int32_t *)greatest.start == rightmost, "the greatest place");
+    expect(*(int32_t *)least.start == drawing.least, "the least place");
+    expect(*(int32_t *)greatest.start == drawing.greatest, "the greatest place");
+}
+
+/* The table and the tape numbers of a file's first rows. */
+static void rows_of(const uint8_t *file, size_t nodes, uint16_t *table, uint16_t *tapes)
+{
+    for (size_t i = 0; i < 2 * nodes; i++) {
+        size_t node = i / 2, word = 2 + 4 * (node % BLOCK_ROWS) + i % 2;
+        table[i] = get_word(file, 1 + node / BLOCK_ROWS, word);
+        tapes[i] = get_word(file, 1 + node / BLOCK_ROWS, word + 2);
+    }
 }
 
 static void read_sheet(const struct input *input, const uint8_t *bytes, size_t len)
@@ -282,15 +289,48 @@ static void read_sheet(const struct input *input, const uint8_t *bytes, size_t l
                                           tapes_len, nodes.start, separation.start);
     expect_number(&file, number, sheet_number(bytes, len, table_len, tapes_len));
     n = number == 0 ? n : 0;
-    for (size_t i = 0; i < 2 * n; i++) {
-        size_t node = i / 2, word = 2 + 4 * (node % BLOCK_ROWS) + i % 2;
-        wanted_table[i] = get_word(bytes, 1 + node / BLOCK_ROWS, word);
-        wanted_tapes[i] = get_word(bytes, 1 + node / BLOCK_ROWS, word + 2);
-    }
+    rows_of(bytes, n, wanted_table, wanted_tapes);
     expect_words(&table, wanted_table, 2 * n);
     expect_words(&tapes, wanted_tapes, 2 * n);
     expect_word(&nodes, n);
     expect_word(&separation, number == 0 ? get_word(bytes, 0, 3) : 0);
+}
+
+/* What is printed for a file. Its length. */
+static int print_plainly(const uint8_t *file, size_t bytes, char *text)
+{
+    static struct drawing drawing;
+    uint16_t table[2 * MOST_NODES], tapes[2 * MOST_NODES];
+    unsigned number = sheet_number(file, bytes, 2 * MOST_NODES, 2 * MOST_NODES);
+    size_t nodes = number == 0 ? get_word(file, 0, 2) : 0;
+    rows_of(file, nodes, table, tapes);
+    number = number == 0 ? table_number(table, 2 * nodes) : number;
+    if (number != 0) {
+        return sprintf(text, "refused %u\n", number);
+    }
+    uint16_t separation = get_word(file, 0, 3);
+    draw(table, nodes, separation, &drawing);
+    int len = sprintf(text, "sheet %zu %zu %d %d %d\n", nodes, drawing.level_count, separation,
+                      drawing.least, drawing.greatest);
+    for (size_t node = 0; node < nodes; node++) {
+        uint32_t tape = tapes[2 * node] + 65536 * (uint32_t)tapes[2 * node + 1];
+        len += sprintf(text + len, "%zu %d %d %u\n", node, drawing.level[node],
+                       drawing.place[node], tape);
+    }
+    return len;
+}
+
+static void list_sheet(const struct input *input, const uint8_t *bytes, size_t len)
+{
+    static char text[HIWENOKA_TEXT_ROOM + 1];
+    size_t out_len = length(input, 0, HIWENOKA_TEXT_ROOM);
+    struct lent file = lend_input(bytes, len), out = lend_output(out_len);
+    size_t written = hiwenoka_list_sheet(file.start, len, out.start, out_len);
+    size_t wanted = out_len < HIWENOKA_TEXT_ROOM ? 0 : (size_t)print_plainly(bytes, len, text);
+    expect(written == wanted, "the text is as long as that of the paper");
+    expect(memcmp(out.start, text, wanted) == 0, "the text is that of the paper");
+    expect_written(&out, wanted);
+    expect_written(&file, 0);
 }
 
 int LLVMFuzzerInitialize(int *count, char ***words)
@@ -320,8 +360,8 @@ int LLVMFuzzerTestOneInput(const uint8_t *data, size_t size)
     /* What the slices hold, and a sheet's tapes, hang on the input alone. */
     seed_random(input.separation + 65536 * (uint64_t)size);
     take_back(input.bits & AFTER_GUARD ? AT_START : AT_END);
-    unsigned operation = data[0] % 5;
-    size_t len = operation == 4 ? file_of(&input, file) : table_of(&input, table);
+    unsigned operation = data[0] % 6;
+    size_t len = operation >= 4 ? file_of(&input, file) : table_of(&input, table);
     switch (operation) {
     case 0:
         check_table(table, len);
@@ -337,6 +377,9 @@ int LLVMFuzzerTestOneInput(const uint8_t *data, size_t size)
         break;
     case 4:
         read_sheet(&input, file, len);
+        break;
+    case 5:
+        list_sheet(&input, file, len);
         break;
     }
     return 0;
