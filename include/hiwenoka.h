@@ -7,9 +7,9 @@
  * A tree table has two entries for each node: first child, then next sibling. 65535 means none.
  * Nodes are numbered from 0, and node 0 is the root. n is the count of nodes.
  *
- * Each function returns 0 if it accepts, and otherwise the number of the first of its conditions
- * that holds. After a refusal its other results are 0 and every slice is as it was. After an
- * acceptance entries past those named here are as they were.
+ * Each function but hiwenoka_list_sheet returns 0 if it accepts, and otherwise the number of the
+ * first of its conditions that holds. After a refusal its other results are 0 and every slice is
+ * as it was. After an acceptance entries past those named here are as they were.
  *
  *    1  the table's length is odd, 0, or above 2048
  *    2  an entry of the table is neither 65535 nor below n

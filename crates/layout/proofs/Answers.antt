@@ -158,6 +158,15 @@ module _ {A : Type 0} where
       (sym (drop-append-le (length new) (take n old) (drop n old) (omega (arith, length-take-le n old h))) ∙ ap (drop (length new)) (take-append-drop n old))
       ∙ sym (ap (λ (j : ℕ). after j new old) e)
 
+-- there is a place and a level for each node
+pub length-places : (D : ℕ) (t : List ℕ) → length (placesOf D t) ≡ nodes t
+unfolding placesOf
+length-places D t = length-map (upTo (nodes t)) (place D t) ∙ length-upTo (nodes t)
+
+pub length-levels : (t : List ℕ) → length (levelsOf t) ≡ nodes t
+unfolding levelsOf
+length-levels t = length-map (upTo (nodes t)) (level t) ∙ length-upTo (nodes t)
+
 module _ (t : List ℕ) (D : ℕ) (s : Slices) where
   pub layout-refused : (k : ℕ) → k ≡ layoutNumber t D s → (k ≡ 0 → ⊥) → Layout t D s (answer k 0 0 (pos 0) (pos 0) 0) s
   layout-refused k e d =
@@ -180,14 +189,6 @@ module _ (t : List ℕ) (D : ℕ) (s : Slices) where
   module _ (zero-number : layoutNumber t D s ≡ 0) where
     abbrev T : Taken t D s
     T = taken t D s zero-number
-
-    length-places : length (placesOf D t) ≡ nodes t
-    unfolding placesOf
-    length-places = length-map (upTo (nodes t)) (place D t) ∙ length-upTo (nodes t)
-
-    length-levels : length (levelsOf t) ≡ nodes t
-    unfolding levelsOf
-    length-levels = length-map (upTo (nodes t)) (level t) ∙ length-upTo (nodes t)
 
     room : length (flat (neighbours t)) ≤ 2 * nodes t
     room = omega (arith, length-flat (neighbours t), neighbours-count t (T .table))
@@ -216,8 +217,8 @@ module _ (t : List ℕ) (D : ℕ) (s : Slices) where
           least = granted-taken (layoutNumber t D s) (leastOf (placesOf D t)) (pos 0) low zero-number (S .least);
           greatest = granted-taken (layoutNumber t D s) (greatestOf (placesOf D t)) (pos 0) high zero-number (S .greatest);
           pairs = granted-taken (layoutNumber t D s) (length (neighbours t)) 0 many zero-number (S .pairs);
-          places = after-taken (layoutNumber t D s) (nodes t) (placesOf D t) (s .places) ps zero-number length-places (S .places);
-          levels = after-taken (layoutNumber t D s) (nodes t) (levelsOf t) (s .levels) ls zero-number length-levels (S .levels);
+          places = after-taken (layoutNumber t D s) (nodes t) (placesOf D t) (s .places) ps zero-number (length-places D t) (S .places);
+          levels = after-taken (layoutNumber t D s) (nodes t) (levelsOf t) (s .levels) ls zero-number (length-levels t) (S .levels);
           theRecord = (
             neighbours t,
             same-pairs (neighbours t),

@@ -7,20 +7,14 @@ use native.Mathlib.Omega.{arith}
 use lib.ListN.{length, take, drop}
 use lib.Seq.{take-append-seam}
 use Rattle.refusal.specs.After.{overwrite, after}
-use Rattle.tree.specs.Table.{nodes}
 use Rattle.tree.specs.WellFormed.{tableNumber}
-use Rattle.tree.proofs.Accepted.{linked}
-use Rattle.tree.proofs.Stands.{passed}
+use Rattle.tree.proofs.Stands.{accepted-numbers}
 use Rattle.rule.specs.Result.{Slices, layoutNumber}
 use Rattle.layout.proofs.Answers.{separation-good, results-long, work-long, number-table, number-0}
 use Rattle.lines.specs.Listing.{refusedLine}
 use Rattle.render.specs.Text.{unlessRefused}
 
 -- ---- the layout
-
--- an accepted table has at most 1,024 nodes
-pub most-nodes : (t : List ℕ) → tableNumber t ≡ 0 → nodes t ≤ 1024
-most-nodes t e = linked t (passed t e) .few
 
 module _ (t : List ℕ) (D : ℕ) (s : Slices) (some : 1 ≤ D) (small : D ≤ 1024) (places : 1024 ≤ length (s .places)) (levels : 1024 ≤ length (s .levels))
     (measured : 2048 ≤ length (s .theRecord)) (work : 16384 ≤ length (s .work)) where
@@ -29,7 +23,7 @@ module _ (t : List ℕ) (D : ℕ) (s : Slices) (some : 1 ≤ D) (small : D ≤ 1
     where
       go : (k : ℕ) → k ≡ tableNumber t → layoutNumber t D s ≡ tableNumber t
       go zero e =
-          let few = most-nodes t (sym e) in
+          let few = accepted-numbers t (sym e) .few in
           sym (number-0 t D s (sym e) (separation-good D some small) (results-long t s (omega (arith, few)) (omega (arith, few)) (omega (arith, few)))
           (work-long t s (omega (arith, few)))) ∙ e
       go (suc k) e = sym (number-table t D s (suc k) e (λ z. omega arith)) ∙ e

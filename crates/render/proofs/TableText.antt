@@ -8,23 +8,22 @@ use lib.IntN.{ℤ, pos}
 use lib.Signed.{mag}
 use mir.Syntax.{w32}
 use mir.Val.{toZ, ofZ}
-use lib.ListN.{length, take, length-map}
+use lib.ListN.{length, take}
 use borrow.Author.Tests.{le-leb}
 use Rattle.refusal.specs.After.{granted}
-use Rattle.tree.specs.Numbers.{upTo}
 use Rattle.tree.specs.Table.{nodes}
 use Rattle.tree.specs.Levels.{level, levelCount}
 use Rattle.tree.specs.WellFormed.{tableNumber}
-use Rattle.tree.proofs.Stands.{accepted-length}
+use Rattle.tree.proofs.Stands.{accepted-numbers, accepted-length}
 use Rattle.rule.specs.Result.{Slices, Answer, Layout, layoutNumber, place, placesOf, levelsOf, leastOf, greatestOf}
 use Rattle.layout.proofs.Carried.{carried}
 use Rattle.layout.proofs.Extreme.{least-small, greatest-small}
-use Rattle.layout.proofs.Settling.{length-upTo}
+use Rattle.layout.proofs.Answers.{length-places, length-levels}
 use Rattle.sheet.specs.Read.{refusal}
 use Rattle.lines.specs.Listing.{listing, refusedLine}
 use Rattle.lines.specs.Printed.{mostNodes, refusalRoom, listingRoom, printable, when, Printed, ListingPrinted, RefusalPrinted}
 use Rattle.render.specs.Text.{textRoom, drawnListing, tableText}
-use Rattle.render.proofs.Numbers.{most-nodes, table-decides, written, text-refused, text-granted}
+use Rattle.render.proofs.Numbers.{table-decides, written, text-refused, text-granted}
 
 -- a text that is printed where a test holds
 shown : {test : Bool} {text wanted old new : List ℕ} {answer : ℕ} → test ≡ true → text ≡ wanted → Printed (when test text) old answer new
@@ -36,14 +35,6 @@ shown {test} {text} {wanted} {old} {new} {answer} holds e p =
 pub refusal-shown : (k : ℕ) {wanted old new : List ℕ} {answer : ℕ} → textRoom ≤ length old → refusedLine k ≡ wanted → RefusalPrinted k old answer new
     → Printed wanted old answer new
 refusal-shown k {old = old} room e p = shown (le-leb refusalRoom (length old) (omega (arith, room))) e p
-
-length-places : (D : ℕ) (t : List ℕ) → length (placesOf D t) ≡ nodes t
-unfolding placesOf
-length-places D t = length-map (upTo (nodes t)) (place D t) ∙ length-upTo (nodes t)
-
-length-levels : (t : List ℕ) → length (levelsOf t) ≡ nodes t
-unfolding levelsOf
-length-levels t = length-map (upTo (nodes t)) (level t) ∙ length-upTo (nodes t)
 
 -- slices as long as 1,024 nodes need
 pub record Ample (s : Slices) : Type 0 where
@@ -81,7 +72,7 @@ module _ (t : List ℕ) (D : ℕ) (some : 1 ≤ D) (small : D ≤ 1024) (tapes :
     nodes-given = given (nodes t) 0 (L .nodes)
 
     pub few : a .nodes ≤ 1024
-    few = subst (λ (n : ℕ). n ≤ 1024) (sym nodes-given) (most-nodes t well-formed)
+    few = subst (λ (n : ℕ). n ≤ 1024) (sym nodes-given) (accepted-numbers t well-formed .few)
 
     levels-listed : take (a .nodes) (u .levels) ≡ levelsOf t
     levels-listed =

@@ -1,4 +1,4 @@
-// Runs the sheets to try, and prints one line for each: what is tried, and what comes of it.
+// Runs the sheets to try, and prints for each what is tried and what comes of it.
 ghost use Prim.Native.Nat.{_<_};
 ghost use mathlib.Core.Path.{_≡_};
 ghost use lib.ListN.{length};
