@@ -22,9 +22,10 @@ use Rattle.rule.specs.Record.{SamePairs, flat}
 use Rattle.rule.specs.Result.{Slices, badSeparation, shortResults, shortWork, layoutNumber, placesOf, levelsOf, leastOf, greatestOf, place, Layout}
 use Rattle.rule.proofs.Promises.{neighbours-count}
 use Rattle.layout.specs.Operation.{slices, answer}
-use Rattle.layout.specs.LastPass.{Settled}
-use Rattle.layout.proofs.Recorded.{length-flat}
-use Rattle.layout.proofs.Settling.{length-upTo}
+use Rattle.second_walk.specs.LastPass.{Settled}
+use Rattle.second_walk.proofs.Recorded.{length-flat}
+use Rattle.second_walk.proofs.Settling.{length-upTo}
+pub use Rattle.second_walk.proofs.Extreme.{least-small, greatest-small}
 
 -- ---- the tests
 

@@ -4,15 +4,6 @@ ghost use Rattle.rule.specs.Result.{Layout, layoutNumber};
 ghost use Rattle.layout.specs.Operation.{slices, answer};
 
 mod clear;
-mod execute;
-mod families;
-mod family;
-mod field;
-mod join;
-mod number;
-mod owner;
-mod settle;
-mod share;
 
 pub struct Drawn {
     pub number: u16,
@@ -77,9 +68,9 @@ pub fn layout(
     }
     let n = table.len() / 2;
     let entries = 2 * n;
-    number::number(table, work);
+    level_order::number(table, work);
     families::families(table, separation, work);
-    let settled = settle::settle(
+    let settled = second_walk::second_walk(
         table,
         separation,
         &mut places[..n],

@@ -8,6 +8,7 @@ use lib.IntN.{ℤ, pos}
 use lib.Signed.{mag}
 use mir.Syntax.{w32}
 use mir.Val.{toZ, ofZ}
+use mir.ValLaws.{toZ-ofZ}
 use lib.ListN.{length, take}
 use borrow.Author.Tests.{le-leb}
 use Rattle.refusal.specs.After.{granted}
@@ -16,9 +17,7 @@ use Rattle.tree.specs.Levels.{level, levelCount}
 use Rattle.tree.specs.WellFormed.{tableNumber}
 use Rattle.tree.proofs.Stands.{accepted-numbers, accepted-length}
 use Rattle.rule.specs.Result.{Slices, Answer, Layout, layoutNumber, place, placesOf, levelsOf, leastOf, greatestOf}
-use Rattle.layout.proofs.Carried.{carried}
-use Rattle.layout.proofs.Extreme.{least-small, greatest-small}
-use Rattle.layout.proofs.Answers.{length-places, length-levels}
+use Rattle.layout.proofs.Answers.{least-small, greatest-small, length-places, length-levels}
 use Rattle.sheet.specs.Read.{refusal}
 use Rattle.lines.specs.Listing.{listing, refusedLine}
 use Rattle.lines.specs.Printed.{mostNodes, refusalRoom, listingRoom, printable, when, Printed, ListingPrinted, RefusalPrinted}
@@ -111,13 +110,13 @@ module _ (t : List ℕ) (D : ℕ) (some : 1 ≤ D) (small : D ≤ 1024) (tapes :
     -- the extremes are handed on in a register's 32 bits
     least-kept : toZ w32 (ofZ w32 (a .least)) ≡ a .least
     least-kept =
-        carried (a .least)
-        (subst (λ (x : ℤ). mag x < 2 ^ 31) (sym (given (leastOf (placesOf D t)) (pos 0) (L .least))) (least-small D t well-formed small))
+        toZ-ofZ w32 (a .least)
+        (record { sfits = subst (λ (x : ℤ). mag x < 2 ^ 31) (sym (given (leastOf (placesOf D t)) (pos 0) (L .least))) (least-small D t well-formed small) })
 
     greatest-kept : toZ w32 (ofZ w32 (a .greatest)) ≡ a .greatest
     greatest-kept =
-        carried (a .greatest)
-        (subst (λ (x : ℤ). mag x < 2 ^ 31) (sym (given (greatestOf (placesOf D t)) (pos 0) (L .greatest))) (greatest-small D t well-formed small))
+        toZ-ofZ w32 (a .greatest)
+        (record { sfits = subst (λ (x : ℤ). mag x < 2 ^ 31) (sym (given (greatestOf (placesOf D t)) (pos 0) (L .greatest))) (greatest-small D t well-formed small) })
 
     pub accepted-listed : {old new : List ℕ} {k : ℕ} → textRoom ≤ length old → length t ≤ length tapes
         → ListingPrinted (a .nodes) (a .levels) D (toZ w32 (ofZ w32 (a .least))) (toZ w32 (ofZ w32 (a .greatest))) (take (a .nodes) (u .levels))

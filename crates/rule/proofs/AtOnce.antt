@@ -14,7 +14,7 @@ use Rattle.rule.specs.Drawing.{Drawing, none, at, width, append, Dot, do
 use Rattle.rule.specs.Join.{Meeting, needed, shortfall, meet, shares, total, spread, start, alone, rowContour, newContour, join}
 use Rattle.rule.specs.AtOnce.{Joining, step, walkDown, joinAtOnce, drawOntoAtOnce}
 use Rattle.rule.proofs.Signed.{parts-add, parts-eq}
-use Rattle.rule.proofs.Names.{Some}
+use Rattle.tree.proofs.Joined.{Some}
 use Rattle.rule.proofs.Moving.{shiftBy, moveBy, rowDots-spread, alone-shift}
 use Rattle.rule.proofs.Spacing.{share-none, Falling, Row, alone-child, last-map, first-map, row-none, row-join, row-drawOnto}
 

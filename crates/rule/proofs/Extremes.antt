@@ -20,7 +20,7 @@ use Rattle.rule.specs.Drawing.{dot, dots}
 use Rattle.rule.specs.Rule.{draw, drawn}
 use Rattle.rule.specs.Result.{place, placesOf, lesser, greater, leastOf, greatestOf}
 use Rattle.rule.proofs.Signed.{one-part, parts-add, parts-sub, parts-eq, parts-le, AtMost, leZ-true, leZ-false, mag-parts}
-use Rattle.rule.proofs.Names.{Some, some}
+use Rattle.tree.proofs.Joined.{Some, some}
 use Rattle.rule.proofs.Spacing.{all-map, all-weaken}
 use Rattle.rule.proofs.Within.{OnLevel, top}
 use Rattle.rule.proofs.Lookup.{dot-place}

@@ -7,11 +7,10 @@ use native.Mathlib.Nat.{add-zero, zero-add}
 use native.Mathlib.Omega.{arith}
 use lib.IntN.{ℤ, pos, _+ℤ_, _-ℤ_}
 use Rattle.tree.specs.Levels.{beside}
-use Rattle.tree.proofs.Walked.{beside-assoc, beside-nil}
+use Rattle.tree.proofs.Joined.{beside-assoc, beside-nil, map-beside}
 use Rattle.rule.specs.Drawing.{Drawing, none, at, width, append, middle, Dot, dot, dots, rowDots}
 use Rattle.rule.specs.Join.{Meeting, shares, total, spread, start, alone, join, meetings, settled}
 use Rattle.rule.proofs.Signed.{parts-add, parts-sub, parts-eq}
-use Rattle.rule.proofs.Names.{map-beside}
 
 -- ---- a dot moved, alone or by what its child moves
 

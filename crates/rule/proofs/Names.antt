@@ -3,26 +3,18 @@ use mathlib.Core.Path.{_≡_, refl, sym, ap, ap₂, _∙_}
 use mathlib.Core.List.{List, [], _∷_, _++_, map, map-append}
 use Prim.Native.Nat.{ℕ, _+_}
 use lib.IntN.{ℤ, pos}
-use Rattle.tree.specs.Forest.{Forest, nil, node}
+use Rattle.tree.specs.Forest.{Forest, nil, node, join as joinForest}
 use Rattle.tree.specs.Levels.{beside, levels}
 use Rattle.tree.proofs.Counting.{All}
-use Rattle.tree.proofs.Walked.{join as joinForest, beside-nil}
 use Rattle.rule.specs.Drawing.{Drawing, none, at, append, dots, rowDots}
 use Rattle.rule.specs.Join.{Meeting, spread, join, meetings, settled}
 use Rattle.rule.specs.Rule.{drawOnto, draw}
+use Rattle.tree.proofs.Joined.{join-nil, join-assoc, beside-nil, map-beside}
 
 -- the nodes of a drawing, without their places
 abbrev pub names : Drawing → Forest
 names none = nil
 names (at v x below after) = node v (names below) (names after)
-
-pub join-nil : (f : Forest) → joinForest f nil ≡ f
-join-nil nil = refl
-join-nil (node v f g) = ap (node v f) (join-nil g)
-
-pub join-assoc : (f g h : Forest) → joinForest (joinForest f g) h ≡ joinForest f (joinForest g h)
-join-assoc nil g h = refl
-join-assoc (node v f k) g h = ap (node v f) (join-assoc k g h)
 
 pub names-append : (d e : Drawing) → names (append d e) ≡ joinForest (names d) (names e)
 names-append none e = refl
@@ -51,11 +43,6 @@ names-draw D f = names-drawOnto D none f
 
 -- ---- levels
 
-pub map-beside : {A B : Type 0} (f : A → B) (xs ys : List (List A)) → map (map f) (beside xs ys) ≡ beside (map (map f) xs) (map (map f) ys)
-map-beside f [] ys = refl
-map-beside f (x ∷ xs) [] = refl
-map-beside {B = B} f (x ∷ xs) (y ∷ ys) = ap₂ (λ (l : List B) (ls : List (List B)). l ∷ ls) (map-append f x y) (map-beside f xs ys)
-
 pub nodes-dots : (i : ℕ) (o : ℤ) (d : Drawing) → map (map (λ e. e .node)) (dots i o d) ≡ levels (names d)
 nodes-dots i o none = refl
 nodes-dots i o (at v x below after) =
@@ -67,20 +54,3 @@ nodes-rowDots i none = refl
 nodes-rowDots i (at v x below after) =
     map-beside (λ e. e .node) (dots i (pos 0) (at v x below none)) (rowDots (i + 1) after)
     ∙ ap₂ beside (nodes-dots i (pos 0) (at v x below none) ∙ beside-nil ((v ∷ []) ∷ levels (names below))) (nodes-rowDots (i + 1) after)
-
--- ---- levels with some node on each
-
-pub data Some {A : Type 0} : List A → Type 0 where
-  some : {x : A} {l : List A} → Some (x ∷ l)
-
-pub beside-some : {A : Type 0} (xs ys : List (List A)) → All Some xs → All Some ys → All Some (beside xs ys)
-beside-some [] ys a b = b
-beside-some (x ∷ xs) [] a b = a
-beside-some {A = A} (x ∷ xs) (y ∷ ys) a b = (front x y (a .0), beside-some xs ys (a .1) (b .1))
-  where
-    front : (l m : List A) → Some l → Some (l ++ m)
-    front (x ∷ l) m s = some
-
-pub levels-some : (f : Forest) → All Some (levels f)
-levels-some nil = tt
-levels-some (node v f g) = beside-some ((v ∷ []) ∷ levels f) (levels g) (some, levels-some f) (levels-some g)

@@ -9,11 +9,11 @@ use Rattle.tree.specs.Numbers.{flatMap}
 use Rattle.tree.specs.Forest.{Forest, nil, node}
 use Rattle.tree.specs.Levels.{beside, levels, sideBySide, Pair}
 use Rattle.tree.proofs.Counting.{All, sumOver, sumOver-append}
-use Rattle.tree.proofs.Walked.{levels-join, beside-nil}
+use Rattle.tree.proofs.Joined.{levels-join, beside-nil, Some, some, levels-some}
 use Rattle.rule.specs.Drawing.{Drawing, none, at, width, Dot, dots, rowDots, firstOf, lastOf, leftContour, rightContour}
 use Rattle.rule.specs.Join.{measure, measured, join, start}
 use Rattle.rule.specs.Rule.{drawOnto, recordOnto}
-use Rattle.rule.proofs.Names.{Some, some, levels-some, names, names-join, nodes-dots, nodes-rowDots}
+use Rattle.rule.proofs.Names.{names, names-join, nodes-dots, nodes-rowDots}
 
 -- ---- the last and the first of a list of nodes
 

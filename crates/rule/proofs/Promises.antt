@@ -25,12 +25,13 @@ use Rattle.rule.specs.Rule.{draw, drawn, recorded}
 use Rattle.rule.specs.Record.{isPair, pairCount, SamePairs}
 use Rattle.rule.specs.Result.{place}
 use Rattle.rule.proofs.Signed.{parts-add, parts-sub, parts-eq, parts-le}
-use Rattle.rule.proofs.Names.{Some, some, levels-some, names-draw}
+use Rattle.rule.proofs.Names.{names-draw}
 use Rattle.rule.proofs.Pairs.{pairs-record, pairsIn}
 use Rattle.rule.proofs.Spacing.{Spaced, all-weaken, row-child, row-drawOnto, row-none}
 use Rattle.rule.proofs.Shapes.{blank, blank-middle, same-drawing}
 use Rattle.rule.proofs.Within.{OnLevel, top, down, Stands, has-stands, has-draw, blank-alike, Match, alike-match}
 use Rattle.rule.proofs.Lookup.{nodesOf, nodes-drawn, dot-place, dot-level}
+use Rattle.tree.proofs.Joined.{Some, some, levels-some}
 
 -- ---- 1. the measured pairs are the neighbours
 

@@ -11,7 +11,7 @@ use Rattle.tree.specs.Shape.{sameShape}
 use Rattle.rule.specs.Drawing.{Drawing, none, at, width, append, firstPlace, lastPlace, middle, Dot, dot, dots, rowDots, firstOf, lastOf, leftContour, rightContour}
 use Rattle.rule.specs.Join.{Meeting, shortfall, meet, shares, total, spread, start, alone, join, meetings, settled, rowContour, newContour}
 use Rattle.rule.specs.Rule.{drawOnto, draw}
-use Rattle.rule.proofs.Names.{map-beside}
+use Rattle.tree.proofs.Joined.{map-beside}
 
 -- ---- without the numbers
 

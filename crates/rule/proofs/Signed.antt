@@ -2,12 +2,12 @@
 -- order or an equation of signed numbers is then one of natural numbers. To prove a linear fact, hand `omega` `parts-add` or `parts-sub`
 -- of each sum and difference in it. Assumes nothing.
 use mathlib.Core.Path.{_≡_, refl, sym, ap, subst}
-use mathlib.Core.Logic.{_⊎_, inl, inr}
+use mathlib.Core.Logic.{_⊎_, inl, inr, ⊎-elim}
 use mathlib.Core.Bool.{Bool, true, false, cond}
 use Prim.Native.Nat.{ℕ, zero, suc, _+_, _-_, _≤_, _<_}
 use native.Mathlib.Omega.{arith}
 use lib.Dec.{T, ltb, leb→le, le→leb}
-use lib.IntN.{ℤ, pos, negsuc, subℕ, _+ℤ_, _-ℤ_, negℤ}
+use lib.IntN.{ℤ, pos, negsuc, natAbs, subℕ, _+ℤ_, _-ℤ_, negℤ}
 use lib.Signed.{_≤ℤ_, leZ, ltZ, mag}
 use borrow.Author.Tests.{ltb-true, ltb-false, leb-true, leb-false}
 use Rattle.rule.specs.Join.{above0}
@@ -44,6 +44,26 @@ parts-neg (negsuc n) = (refl, refl)
 
 pub parts-sub : (x y : ℤ) → above0 (x -ℤ y) + (below0 x + above0 y) ≡ (above0 x + below0 y) + below0 (x -ℤ y)
 parts-sub x y = omega (arith, parts-add x (negℤ y), parts-neg y)
+
+-- ---- sizes
+
+pub natAbs-parts : (z : ℤ) → natAbs z ≡ above0 z + below0 z
+natAbs-parts (pos n) = omega arith
+natAbs-parts (negsuc n) = omega arith
+
+pub natAbs-add : (x y : ℤ) → natAbs (x +ℤ y) ≤ natAbs x + natAbs y
+natAbs-add x y =
+    let a = natAbs-parts x in
+    let b = natAbs-parts y in
+    let c = natAbs-parts (x +ℤ y) in
+    ⊎-elim (λ e. omega (arith, parts-add x y)) (λ e. omega (arith, parts-add x y)) (one-part (x +ℤ y))
+
+pub natAbs-sub : (x y : ℤ) → natAbs (x -ℤ y) ≤ natAbs x + natAbs y
+natAbs-sub x y =
+    let a = natAbs-parts x in
+    let b = natAbs-parts y in
+    let c = natAbs-parts (x -ℤ y) in
+    ⊎-elim (λ e. omega (arith, parts-sub x y)) (λ e. omega (arith, parts-sub x y)) (one-part (x -ℤ y))
 
 -- ---- equations and orders
 

@@ -12,7 +12,7 @@ use Rattle.rule.specs.Drawing.{Drawing, none, width, middle, Dot, dots, 
 use Rattle.rule.specs.Join.{Meeting, shortfall, needed, meet, share, shares, total, start, alone, join, meetings}
 use Rattle.rule.specs.Rule.{drawOnto}
 use Rattle.rule.proofs.Signed.{parts-add, parts-sub, AtMost}
-use Rattle.rule.proofs.Names.{Some, some, beside-some}
+use Rattle.tree.proofs.Joined.{Some, some, beside-some}
 use Rattle.rule.proofs.Moving.{shiftBy, moveBy, settle, rowDots-join, dots-row, width-join}
 
 -- ---- shares

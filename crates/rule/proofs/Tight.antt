@@ -8,12 +8,11 @@ use lib.ListN.{length}
 use lib.IntN.{ℤ, pos, _+ℤ_, _-ℤ_}
 use Rattle.tree.specs.Numbers.{count}
 use Rattle.tree.specs.Table.{nodes}
-use Rattle.tree.specs.Forest.{Forest, nil, node, treeOf, preorder, roots, size}
+use Rattle.tree.specs.Forest.{Forest, nil, node, join as joinForest, treeOf, preorder, roots, size}
 use Rattle.tree.specs.Levels.{Pair, beside, levels, together, neighbours}
 use Rattle.tree.specs.Shape.{under}
 use Rattle.tree.specs.WellFormed.{tableNumber}
 use Rattle.tree.proofs.Parts.{Part, whole, in-children, in-siblings}
-use Rattle.tree.proofs.Walked.{join as joinForest}
 use Rattle.tree.proofs.LevelOf.{count-levels}
 use Rattle.rule.specs.Drawing.{Drawing, none, at, width, middle, Dot, dots, rowDots}
 use Rattle.rule.specs.Join.{above0, Meeting, shares, total, join, measured, meetings, start, alone}

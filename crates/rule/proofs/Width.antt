@@ -10,7 +10,7 @@ use lib.IntN.{ℤ, pos, _+ℤ_, _-ℤ_}
 use Rattle.tree.specs.Forest.{Forest, nil, node, size}
 use Rattle.tree.specs.Levels.{beside}
 use Rattle.tree.proofs.Counting.{All, below-or-not}
-use Rattle.tree.proofs.Walked.{size-join}
+use Rattle.tree.proofs.Joined.{size-join, Some, some}
 use Rattle.rule.specs.Drawing.{Drawing, none, at, width, lastPlace, middle, Dot, dot, dots, rowDots, firstOf, lastOf, leftContour, rightContour}
 use Rattle.rule.specs.Join.{Meeting, above0, shortfall, needed, meet, measure, shares, total, start, alone, join, meetings}
 use Rattle.rule.specs.Rule.{drawOnto, draw}
@@ -18,7 +18,7 @@ use Rattle.rule.specs.Record.{isPair, pairCount}
 use mathlib.Core.Bool.{Bool, cond, _&&_}
 use borrow.Author.Tests.{eq-eqb}
 use Rattle.rule.proofs.Signed.{below0, parts-add, parts-sub, parts-eq, AtMost}
-use Rattle.rule.proofs.Names.{Some, some, names, names-join, names-draw}
+use Rattle.rule.proofs.Names.{names, names-join, names-draw}
 use Rattle.rule.proofs.Moving.{shiftBy, moveBy, settle, rowDots-join, dots-row}
 use Rattle.rule.proofs.Spacing.{share-none, shares-mono, Spaced, Falling, Seams, Row, Child, row-join, row-none, row-drawOnto, alone-child, owners, meet-seams}
 use Rattle.rule.proofs.Within.{OnLevel, top, down, on-left, on-right}

@@ -13,6 +13,7 @@ pub mod Followed
 pub mod TableOf
 pub mod Number
 pub mod Cases
+pub mod Joined
 pub mod Walked
 pub mod LevelOf
 pub mod Mirrored

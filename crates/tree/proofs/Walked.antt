@@ -6,11 +6,11 @@ use native.Mathlib.Nat.{not-suc-le-zero}
 use native.Mathlib.Omega.{arith}
 use Rattle.tree.specs.Numbers.{flatMap}
 use Rattle.tree.specs.Table.{nodes, firstChild}
-pub use Rattle.tree.specs.Forest.{join}
-use Rattle.tree.specs.Forest.{Forest, nil, node, forest, forestFrom, treeOf, size, preorder, roots, entry, siblings}
+use Rattle.tree.specs.Forest.{Forest, nil, node, join, forest, forestFrom, treeOf, size, preorder, roots, entry, siblings}
 use Rattle.tree.specs.Levels.{childrenOf, walkFrom, walk, beside, levels}
 use Rattle.tree.specs.WellFormed.{tableNumber}
 use Rattle.tree.proofs.Counting.{Below, all-left, all-right}
+use Rattle.tree.proofs.Joined.{size-join, roots-join, beside-nil, levels-join}
 use Rattle.tree.proofs.Reading.{Agrees}
 use Rattle.tree.proofs.Linked.{read-back}
 use Rattle.tree.proofs.Stands.{accepted-agrees, accepted-numbers, accepted-size}
@@ -21,28 +21,9 @@ abbrev pub oneDown : Forest → Forest
 oneDown nil = nil
 oneDown (node v f g) = join f (oneDown g)
 
-pub size-join : (f g : Forest) → size (join f g) ≡ size f + size g
-size-join nil g = omega arith
-size-join (node v f h) g = omega (arith, size-join h g)
-
 size-oneDown : (f : Forest) → size (oneDown f) ≤ size f
 size-oneDown nil = omega arith
 size-oneDown (node v f g) = omega (arith, size-join f (oneDown g), size-oneDown g)
-
-pub beside-nil {ℓ} : {A : Type ℓ} (xs : List (List A)) → beside xs [] ≡ xs
-beside-nil [] = refl
-beside-nil (x ∷ xs) = refl
-
-pub beside-assoc {ℓ} : {A : Type ℓ} (xs ys zs : List (List A)) → beside (beside xs ys) zs ≡ beside xs (beside ys zs)
-beside-assoc [] ys zs = refl
-beside-assoc (x ∷ xs) [] zs = refl
-beside-assoc (x ∷ xs) (y ∷ ys) [] = refl
-beside-assoc {A = A} (x ∷ xs) (y ∷ ys) (z ∷ zs) = ap₂ (λ (a : List A) (b : List (List A)). a ∷ b) (append-assoc x y z) (beside-assoc xs ys zs)
-
-pub levels-join : (f g : Forest) → levels (join f g) ≡ beside (levels f) (levels g)
-levels-join nil g = refl
-levels-join (node v f h) g =
-    ap (beside ((v ∷ []) ∷ levels f)) (levels-join h g) ∙ sym (beside-assoc ((v ∷ []) ∷ levels f) (levels h) (levels g))
 
 -- the first level is the roots, and the others are the levels of the forest one level down
 pub levels-down : (v : ℕ) (f g : Forest) → levels (node v f g) ≡ roots (node v f g) ∷ levels (oneDown (node v f g))
@@ -58,17 +39,13 @@ abbrev pub Leads : List ℕ → Forest → Type 0
 Leads t nil = Unit {0}
 Leads t (node v f g) = (forest t (firstChild t v) ≡ f) × Leads t f × Leads t g
 
-leads-join : (t : List ℕ) (f g : Forest) → Leads t f → Leads t g → Leads t (join f g)
+pub leads-join : (t : List ℕ) (f g : Forest) → Leads t f → Leads t g → Leads t (join f g)
 leads-join t nil g a b = b
 leads-join t (node v f h) g a b = (a .0, a .1, leads-join t h g (a .2) b)
 
 leads-down : (t : List ℕ) (f : Forest) → Leads t f → Leads t (oneDown f)
 leads-down t nil a = tt
 leads-down t (node v f g) a = leads-join t f (oneDown g) (a .1) (leads-down t g (a .2))
-
-roots-join : (f g : Forest) → roots (join f g) ≡ roots f ++ roots g
-roots-join nil g = refl
-roots-join (node v f h) g = ap (λ (l : List ℕ). v ∷ l) (roots-join h g)
 
 children-down : (t : List ℕ) (f : Forest) → Leads t f → flatMap (childrenOf t) (roots f) ≡ roots (oneDown f)
 unfolding childrenOf

@@ -8,18 +8,17 @@ use lib.Signed.{mag}
 use borrow.Author.Needs.{needs}
 use mir.Syntax.{w32}
 use mir.Val.{toZ, ofZ}
+use mir.ValLaws.{toZ-ofZ}
 use Rattle.refusal.specs.After.{granted}
 use Rattle.rule.specs.Result.{Slices, layoutNumber, placesOf, leastOf, greatestOf}
 use Rattle.layout.specs.Operation.{slices}
-use Rattle.layout.proofs.Carried.{carried}
-use Rattle.layout.proofs.Extreme.{least-small, greatest-small}
-use Rattle.layout.proofs.Answers.{taken}
+use Rattle.layout.proofs.Answers.{taken, least-small, greatest-small}
 use Rattle.exports.proofs.hiwenoka_layout.Statement.{statement}
 use Rattle.exports.proofs.hiwenoka_layout.Tie as tie
 
 -- a field that fits where the operation is accepted
 stored : (k : ℕ) (x z : ℤ) → (k ≡ 0 → mag x < 2 ^ 31) → z ≡ granted k x (pos 0) → toZ w32 (ofZ w32 z) ≡ granted k x (pos 0)
-stored k x z h e = carried z (subst (λ (y : ℤ). mag y < 2 ^ 31) (sym e) (small k h)) ∙ e
+stored k x z h e = toZ-ofZ w32 z (record { sfits = subst (λ (y : ℤ). mag y < 2 ^ 31) (sym e) (small k h) }) ∙ e
   where
     small : (j : ℕ) → (j ≡ 0 → mag x < 2 ^ 31) → mag (granted j x (pos 0)) < 2 ^ 31
     small zero f = f refl

@@ -14,12 +14,12 @@ use Rattle.tree.specs.Table.{nodes}
 use Rattle.tree.proofs.Stands.{accepted-numbers}
 use Rattle.rule.specs.Result.{Slices, layoutNumber}
 use Rattle.layout.specs.Operation.{slices}
-use Rattle.layout.specs.Stages.{NumberedFrom}
-use Rattle.layout.specs.Families.{FamiliesFrom}
-use Rattle.layout.specs.LastPass.{Ready, Settled}
-use Rattle.layout.proofs.Carried.{carried}
+use Rattle.level_order.specs.Numbered.{NumberedFrom}
+use Rattle.families.specs.Families.{FamiliesFrom}
+use Rattle.second_walk.specs.LastPass.{Ready, Settled}
+use Rattle.level_order.proofs.Signed32.{told}
 use Rattle.layout.proofs.Standing
-use Rattle.layout.proofs.Extreme.{least-small, greatest-small}
+use Rattle.second_walk.proofs.Extreme.{least-small, greatest-small}
 use Rattle.layout.proofs.Answers.{Taken, taken, layout-refused, layout-accepted}
 use Rattle.layout.proofs.layout.Statement.{statement}
 use Rattle.layout.proofs.layout.Tie as tie
@@ -53,7 +53,9 @@ module _ (s : tie.Start) where
   lent = slices (s .args .places .now) (s .args .levels .now) (s .args .measured .now) (s .args .work .now)
 
 returns : tie.Need-returns
-returns c = layout-refused (t (c .before .before .before .before .before .before .before .before .before)) (D (c .before .before .before .before .before .before .before .before .before)) (lent (c .before .before .before .before .before .before .before .before .before)) (c .before .layout-number .result) (c .before .layout-number .ensures) (c .if1 .taken)
+returns c =
+    let s = c .before .before .before .before .before .before .before .before .before in
+    layout-refused (t s) (D s) (lent s) (c .before .layout-number .result) (c .before .layout-number .ensures) (c .if1 .taken)
 
 -- ---- past the conditions
 
@@ -78,50 +80,58 @@ number-requires c κs = (T (c .before) .table, T (c .before) .work)
 
 -- the positions are numbered
 module _ (c : tie.After-number) where
-  abbrev numbered : NumberedFrom (t (start (c .before .before))) (start (c .before .before) .args .work .now) (c .number .last .1 .0)
+  abbrev p₁ : tie.Else1
+  p₁ = c .before .before
+
+  abbrev numbered : NumberedFrom (t (start p₁)) (start p₁ .args .work .now) (c .number .last .1 .0)
   numbered = c .number .ensures
 
 families-requires : tie.Need-families-requires
 families-requires c κs =
-    let p = c .before .before .before .before in
-    (record { accepted = T p .table; low = T p .some; high = T p .small }, (numbered (c .before .before) .numbered, numbered (c .before .before) .fresh))
+    let N = numbered (c .before .before) in
+    let U = T (p₁ (c .before .before)) in
+    (record { accepted = U .table; low = U .some; high = U .small }, (N .numbered, N .fresh))
 
--- the families are placed
+-- the families are drawn
 module _ (c : tie.After-families) where
-  abbrev familiar : FamiliesFrom (t (start (c .before .before .before .before .before))) (D (start (c .before .before .before .before .before))) (c .before .before .before .number .last .1 .0) (c .families .last .1 .1 .0)
-  familiar = c .families .ensures
+  abbrev numbering : tie.After-number
+  numbering = c .before .before .before
 
-  ready : Ready (D (start (c .before .before .before .before .before))) (t (start (c .before .before .before .before .before))) (c .families .last .1 .1 .0)
+  abbrev p₂ : tie.Else1
+  p₂ = p₁ numbering
+
+  abbrev drawn : FamiliesFrom (t (start p₂)) (D (start p₂)) (numbering .number .last .1 .0) (c .families .last .1 .1 .0)
+  drawn = c .families .ensures
+
+  ready : Ready (D (start p₂)) (t (start p₂)) (c .families .last .1 .1 .0)
   ready =
-      let N = numbered (c .before .before .before) in
-      Standing.ready (D (start (c .before .before .before .before .before))) (t (start (c .before .before .before .before .before))) (T (c .before .before .before .before .before) .table) (c .before .before .before .number .last .1 .0) (c .families .last .1 .1 .0)
-      (N .numbered) (N .parents) (familiar .placed)
-      (omega (arith, T (c .before .before .before .before .before) .work, N .size, familiar .length))
-      (familiar .node) (familiar .parent)
+      let N = numbered numbering in
+      Standing.ready (D (start p₂)) (t (start p₂)) (T p₂ .table) (numbering .number .last .1 .0) (c .families .last .1 .1 .0) (N .numbered) (N .parents) (drawn .placed)
+      (omega (arith, T p₂ .work, N .size, drawn .size)) (drawn .numbering)
 
-  rest : drop (16 * n (start (c .before .before .before .before .before))) (c .families .last .1 .1 .0) ≡ drop (16 * n (start (c .before .before .before .before .before))) (start (c .before .before .before .before .before) .args .work .now)
-  rest = familiar .rest ∙ numbered (c .before .before .before) .rest
+  rest : drop (16 * n (start p₂)) (c .families .last .1 .1 .0) ≡ drop (16 * n (start p₂)) (start p₂ .args .work .now)
+  rest = drawn .rest ∙ numbered numbering .rest
 
-slice-relend-prefix-settle : tie.Need-slice-relend-prefix-settle
-slice-relend-prefix-settle c = T (c .before .before .before .before .before .before) .places
+slice-relend-prefix-second-walk : tie.Need-slice-relend-prefix-second-walk
+slice-relend-prefix-second-walk c = T (c .before .before .before .before .before .before) .places
 
-slice-aggregate-settle : tie.Need-slice-aggregate-settle
-slice-aggregate-settle c = sym (length-take-le _ _ (T (c .before .before .before .before .before .before .before) .places))
+slice-aggregate-second-walk : tie.Need-slice-aggregate-second-walk
+slice-aggregate-second-walk c = sym (length-take-le _ _ (T (c .before .before .before .before .before .before .before) .places))
 
-slice-relend-prefix-settle-2 : tie.Need-slice-relend-prefix-settle-2
-slice-relend-prefix-settle-2 c = T (c .before .before .before .before .before .before .before) .levels
+slice-relend-prefix-second-walk-2 : tie.Need-slice-relend-prefix-second-walk-2
+slice-relend-prefix-second-walk-2 c = T (c .before .before .before .before .before .before .before) .levels
 
-slice-aggregate-settle-2 : tie.Need-slice-aggregate-settle-2
-slice-aggregate-settle-2 c = sym (length-take-le _ _ (T (c .before .before .before .before .before .before .before .before) .levels))
+slice-aggregate-second-walk-2 : tie.Need-slice-aggregate-second-walk-2
+slice-aggregate-second-walk-2 c = sym (length-take-le _ _ (T (c .before .before .before .before .before .before .before .before) .levels))
 
-slice-relend-prefix-settle-3 : tie.Need-slice-relend-prefix-settle-3
-slice-relend-prefix-settle-3 c = T (c .before .before .before .before .before .before .before .before) .measured
+slice-relend-prefix-second-walk-3 : tie.Need-slice-relend-prefix-second-walk-3
+slice-relend-prefix-second-walk-3 c = T (c .before .before .before .before .before .before .before .before) .measured
 
-slice-aggregate-settle-3 : tie.Need-slice-aggregate-settle-3
-slice-aggregate-settle-3 c = sym (length-take-le _ _ (T (c .before .before .before .before .before .before .before .before .before) .measured))
+slice-aggregate-second-walk-3 : tie.Need-slice-aggregate-second-walk-3
+slice-aggregate-second-walk-3 c = sym (length-take-le _ _ (T (c .before .before .before .before .before .before .before .before .before) .measured))
 
-settle-requires : tie.Need-settle-requires
-settle-requires c κs =
+second-walk-requires : tie.Need-second-walk-requires
+second-walk-requires c κs =
     let p = c .before .before .before .before .before .before .before .before .before .before in (
       T p .table,
       (
@@ -158,40 +168,45 @@ same-length-7 c = search needs
 same-length-8 : tie.Need-same-length-8
 same-length-8 c = search needs
 
--- ---- the last pass is done
+-- ---- the second walk is done
 
-module _ (c : tie.After-settle) where
-  abbrev settled : Settled (t (start (c .before .before .before .before .before .before .before .before .before .before .before))) (D (start (c .before .before .before .before .before .before .before .before .before .before .before))) (c .settle .last .1 .1 .0) (c .settle .last .1 .1 .1 .0)
-      (take (2 * n (start (c .before .before .before .before .before .before .before .before .before .before .before))) (start (c .before .before .before .before .before .before .before .before .before .before .before) .args .measured .now)) (c .settle .last .1 .1 .1 .1 .0) (c .before .before .before .before .before .before .families .last .1 .1 .0)
-      (c .settle .last .1 .1 .1 .1 .1 .0) (c .settle .result .levels) (c .settle .result .least) (c .settle .result .greatest) (c .settle .result .pairs)
-  settled = c .settle .ensures
+module _ (c : tie.After-second-walk) where
+  abbrev families : tie.After-families
+  families = c .before .before .before .before .before .before
 
-  least-carried : toZ w32 (ofZ w32 (c .settle .result .least)) ≡ c .settle .result .least
-  least-carried = carried (c .settle .result .least) (subst (λ (z : ℤ). mag z < 2 ^ 31) (sym (settled .least)) (least-small (D (start (c .before .before .before .before .before .before .before .before .before .before .before))) (t (start (c .before .before .before .before .before .before .before .before .before .before .before))) (T (c .before .before .before .before .before .before .before .before .before .before .before) .table) (T (c .before .before .before .before .before .before .before .before .before .before .before) .small)))
+  abbrev p₃ : tie.Else1
+  p₃ = p₂ families
 
-  greatest-carried : toZ w32 (ofZ w32 (c .settle .result .greatest)) ≡ c .settle .result .greatest
-  greatest-carried = carried (c .settle .result .greatest) (subst (λ (z : ℤ). mag z < 2 ^ 31) (sym (settled .greatest)) (greatest-small (D (start (c .before .before .before .before .before .before .before .before .before .before .before))) (t (start (c .before .before .before .before .before .before .before .before .before .before .before))) (T (c .before .before .before .before .before .before .before .before .before .before .before) .table) (T (c .before .before .before .before .before .before .before .before .before .before .before) .small)))
+  abbrev settled : Settled (t (start p₃)) (D (start p₃)) (c .second-walk .last .1 .1 .0) (c .second-walk .last .1 .1 .1 .0) (take (2 * n (start p₃)) (start p₃ .args .measured .now))
+      (c .second-walk .last .1 .1 .1 .1 .0) (families .families .last .1 .1 .0) (c .second-walk .last .1 .1 .1 .1 .1 .0)
+      (c .second-walk .result .levels) (c .second-walk .result .least) (c .second-walk .result .greatest) (c .second-walk .result .pairs)
+  settled = c .second-walk .ensures
+
+  -- the extremes are read back
+  returned : Settled (t (start p₃)) (D (start p₃)) (c .second-walk .last .1 .1 .0) (c .second-walk .last .1 .1 .1 .0) (take (2 * n (start p₃)) (start p₃ .args .measured .now))
+      (c .second-walk .last .1 .1 .1 .1 .0) (families .families .last .1 .1 .0) (c .second-walk .last .1 .1 .1 .1 .1 .0)
+      (c .second-walk .result .levels) (toZ w32 (ofZ w32 (c .second-walk .result .least))) (toZ w32 (ofZ w32 (c .second-walk .result .greatest))) (c .second-walk .result .pairs)
+  returned =
+      let S = settled in
+      let fits-least = subst (λ (z : ℤ). mag z < 2 ^ 31) (sym (S .least)) (least-small (D (start p₃)) (t (start p₃)) (T p₃ .table) (T p₃ .small)) in
+      let fits-greatest = subst (λ (z : ℤ). mag z < 2 ^ 31) (sym (S .greatest)) (greatest-small (D (start p₃)) (t (start p₃)) (T p₃ .table) (T p₃ .small)) in
+      record {
+        places = S .places;
+        levels = S .levels;
+        measured = S .measured;
+        rest = S .rest;
+        levelCount = S .levelCount;
+        least = told fits-least (S .least);
+        greatest = told fits-greatest (S .greatest);
+        pairs = S .pairs;
+      }
 
 returns-2 : tie.Need-returns-2
 returns-2 c =
-    let p = c .before .before .before .before .before .before .before .before .before .before .before .before .before .before .before .before .before .before .before .before .before in
-    let r = c .before .before .before .before .before .before .before .before .before .before .settle in
-    let S = settled (c .before .before .before .before .before .before .before .before .before .before) in
-    layout-accepted (t (start p)) (D (start p)) (lent (start p)) (zero-number p) (r .last .1 .1 .0) (r .last .1 .1 .1 .0) (r .last .1 .1 .1 .1 .0)
-    (c .before .before .before .before .before .before .before .before .before .before .before .before .before .before .before .before .families .last .1 .1 .0) (r .last .1 .1 .1 .1 .1 .0) (c .before .before .clear .last .0) (r .result .levels)
-    (toZ w32 (ofZ w32 (r .result .least))) (toZ w32 (ofZ w32 (r .result .greatest))) (r .result .pairs)
-    (record {
-      places = S .places;
-      levels = S .levels;
-      measured = S .measured;
-      rest = S .rest;
-      levelCount = S .levelCount;
-      least = least-carried (c .before .before .before .before .before .before .before .before .before .before) ∙ S .least;
-      greatest = greatest-carried (c .before .before .before .before .before .before .before .before .before .before) ∙ S .greatest;
-      pairs = S .pairs;
-    })
-    (rest (c .before .before .before .before .before .before .before .before .before .before .before .before .before .before .before .before))
-    (c .before .before .clear .ensures)
+    let w = c .before .before .before .before .before .before .before .before .before .before in
+    let p = p₃ w in
+    layout-accepted (t (start p)) (D (start p)) (lent (start p)) (zero-number p) _ _ _ _ _ (c .before .before .clear .last .0) _ _ _ _
+    (returned w) (rest (families w)) (c .before .before .clear .ensures)
 
 pub layout-spec : {M : Type 1} → statement M
 layout-spec =
@@ -206,13 +221,13 @@ layout-spec =
     mul-entries
     number-requires
     families-requires
-    slice-relend-prefix-settle
-    slice-aggregate-settle
-    slice-relend-prefix-settle-2
-    slice-aggregate-settle-2
-    slice-relend-prefix-settle-3
-    slice-aggregate-settle-3
-    settle-requires
+    slice-relend-prefix-second-walk
+    slice-aggregate-second-walk
+    slice-relend-prefix-second-walk-2
+    slice-aggregate-second-walk-2
+    slice-relend-prefix-second-walk-3
+    slice-aggregate-second-walk-3
+    second-walk-requires
     mul-clear
     clear-requires
     cast-t36

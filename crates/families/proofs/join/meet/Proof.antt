@@ -1,0 +1,217 @@
+-- `families::join::meet` meets its contract. Assumes nothing.
+use mathlib.Core.Path.{_≡_, refl, sym, ap, ap₂, _∙_, subst}
+use mathlib.Core.Bool.{true, false}
+use mathlib.Core.List.{List}
+use Prim.Native.Nat.{ℕ, _+_, _-_, _≤_, _<_}
+use native.Mathlib.Omega.{arith}
+use borrow.Author.Needs.{needs}
+use borrow.Author.Tests.{leb-true, leb-false, ne-eqb}
+use lib.Dec.{T}
+use lib.IntN.{ℤ, pos, negsuc, natAbs, _+ℤ_, _-ℤ_}
+use lib.Signed.{leZ}
+use mir.Syntax.{w32}
+use mir.Val.{toZ, ofZ}
+use Rattle.rule.specs.Join.{above0}
+use Rattle.rule.proofs.Signed.{natAbs-add, natAbs-sub}
+use Rattle.level_order.specs.Fields.{get, put, ANCESTOR}
+use Rattle.level_order.proofs.Signed32.{Held, held, plus, minus, signed, unsigned, unsigned-fits}
+use Rattle.families.specs.declared.join.Stand.{Stand}
+use Rattle.families.specs.Leaves.{shared}
+use Rattle.families.specs.Descent.{Level, tooClose}
+use Rattle.families.proofs.OwnerOf.{owner-range}
+use Rattle.families.proofs.join.meet.Statement.{statement}
+use Rattle.families.proofs.join.meet.Tie as tie
+
+-- a number that is at most 0, and one that is above it
+not-above : (z : ℤ) → leZ z (pos 0) ≡ true → above0 z ≡ 0
+not-above (pos n) e = omega (arith, leb-true n 0 e)
+not-above (negsuc n) e = refl
+
+is-above : (z : ℤ) → leZ z (pos 0) ≡ false → (z ≡ pos (above0 z)) × (0 < above0 z)
+is-above (pos n) e = (refl, leb-false n 0 e)
+is-above (negsuc n) e = absurd (subst T e tt)
+
+-- at the function's start
+module _ (s : tie.Start) where
+  abbrev work : List ℤ
+  work = s .args .work .now
+
+  abbrev stand : Stand
+  stand = s .args .s
+
+  abbrev child : ℕ
+  child = s .args .c
+
+  abbrev separation : ℕ
+  separation = s .args .separation
+
+  abbrev level : Level work stand (s .args .f) child (s .args .default)
+  level = s .pre .0
+
+  -- where the child's node has to be, where it is, and by how much it is too close
+  least : Held (toZ w32 (ofZ w32 (stand .right)) +ℤ toZ w32 separation) (stand .right +ℤ pos separation)
+  least =
+      plus (held {z = stand .right} refl (omega (arith, level .right-modest)) .read) (signed separation (omega (arith, s .pre .1 .0)))
+      (omega (arith, natAbs-add (stand .right) (pos separation), level .right-modest, s .pre .1 .0))
+
+  place : Held (toZ w32 (ofZ w32 (stand .left)) +ℤ toZ w32 (ofZ w32 (stand .moved))) (stand .left +ℤ stand .moved)
+  place =
+      plus (held {z = stand .left} refl (omega (arith, level .left-modest)) .read) (held {z = stand .moved} refl (omega (arith, level .moved-modest)) .read)
+      (omega (arith, natAbs-add (stand .left) (stand .moved), level .left-modest, level .moved-modest))
+
+  abbrev difference : ℤ
+  difference = toZ w32 (ofZ w32 (toZ w32 (ofZ w32 (stand .right)) +ℤ toZ w32 separation)) -ℤ toZ w32 (ofZ w32 (toZ w32 (ofZ w32 (stand .left)) +ℤ toZ w32 (ofZ w32 (stand .moved))))
+
+  abbrev gap : ℤ
+  gap = (stand .right +ℤ pos separation) -ℤ (stand .left +ℤ stand .moved)
+
+  close : Held difference gap
+  close =
+      minus (least .read) (place .read)
+      (omega (
+        arith,
+        natAbs-sub (stand .right +ℤ pos separation) (stand .left +ℤ stand .moved),
+        natAbs-add (stand .right) (pos separation),
+        natAbs-add (stand .left) (stand .moved),
+        level .right-modest,
+        level .left-modest,
+        level .moved-modest,
+        s .pre .1 .0,
+      ))
+
+  child-read : toZ w32 child ≡ pos child
+  child-read = signed child (omega (arith, level .few .1))
+
+  abbrev amount : ℕ
+  amount = tooClose stand separation
+
+cast-close : tie.Need-cast-close
+cast-close c = search needs
+
+add-close : tie.Need-add-close
+add-close c = least (c .before .before) .fits
+
+-- once the places are read
+abbrev start : tie.After-struct-told2 → tie.Start
+start c = c .before .before .before .before
+
+add-close-2 : tie.Need-add-close-2
+add-close-2 c = place (start c) .fits
+
+sub-close : tie.Need-sub-close
+sub-close c = close (start c) .fits
+
+-- ---- no conflict
+
+no-amount : (c : tie.Then1) → amount (start (c .before)) ≡ 0
+no-amount c =
+    let s = start (c .before) in
+    not-above (gap s) (ap (λ (z : ℤ). leZ z (pos 0)) (sym (close s .read)) ∙ c .if1 .taken)
+
+sub-put : tie.Need-sub-put
+sub-put c = search needs
+
+cast-put : tie.Need-cast-put
+cast-put c = search needs
+
+put-requires : tie.Need-put-requires
+put-requires c κs = search needs
+
+same-length : tie.Need-same-length
+same-length c = search needs
+
+returns : tie.Need-returns
+returns c =
+    let t = c .before .before .before in
+    let s = start (t .before) in
+    (ap pos (sym (no-amount t)), rw (no-amount t) (c .before .put .ensures ∙ ap (put (work s) ANCESTOR (stand s .e - 1)) (child-read s)))
+
+-- ---- a conflict
+
+module _ (c : tie.Else1) where
+  abbrev s₁ : tie.Start
+  s₁ = start (c .before)
+
+  above : (gap s₁ ≡ pos (amount s₁)) × (0 < amount s₁)
+  above = is-above (gap s₁) (ap (λ (z : ℤ). leZ z (pos 0)) (sym (close s₁ .read)) ∙ c .if1 .left)
+
+  difference-is : difference s₁ ≡ pos (amount s₁)
+  difference-is = ap₂ _-ℤ_ (least s₁ .read) (place s₁ .read) ∙ above .0
+
+  amount-read : natAbs (toZ w32 (ofZ w32 (difference s₁))) ≡ amount s₁
+  amount-read = unsigned (difference s₁) (amount s₁) difference-is (omega (arith, s₁ .pre .1 .1))
+
+sub-owner : tie.Need-sub-owner
+sub-owner c = search needs
+
+owner-requires : tie.Need-owner-requires
+owner-requires c κs = search needs
+
+cast-share : tie.Need-cast-share
+cast-share c =
+    let q = c .before .before .before in
+    unsigned-fits (difference (s₁ q)) (amount (s₁ q)) (difference-is q) (omega (arith, s₁ q .pre .1 .1))
+
+share-requires : tie.Need-share-requires
+share-requires c κs =
+    let q = c .before .before .before in
+    let s = s₁ q in
+    let i = c .before .owner .result in
+    let l = level s in
+    let range = owner-range (get (work s) ANCESTOR (stand s .b - 1)) (s .args .f) (child s) (s .args .default) (l .low) (l .high) in
+    let low : s .args .f ≤ i = omega (arith, c .before .owner .ensures, range .0) in
+    let high : i < child s = omega (arith, c .before .owner .ensures, range .1) in
+    let own = l .gathered (child s) (omega (arith, l .low, l .high)) (omega arith) in (
+      (high, l .few .1, omega (arith, amount-read q, s .pre .1 .1)),
+      (omega (arith, l .inside .1), (own .0, (own .1, l .gathered i low (omega (arith, high)) .1))),
+    )
+
+sub-put-2 : tie.Need-sub-put-2
+sub-put-2 c = search needs
+
+cast-put-2 : tie.Need-cast-put-2
+cast-put-2 c = search needs
+
+put-requires-2 : tie.Need-put-requires-2
+put-requires-2 c κs = search needs
+
+same-length-2 : tie.Need-same-length-2
+same-length-2 c = search needs
+
+returns-2 : tie.Need-returns-2
+returns-2 c =
+    let h = c .before .before .before .before in
+    let o = h .before .before in
+    let q = o .before .before in
+    let s = s₁ q in
+    let some = ne-eqb (amount s) 0 (λ z. omega (arith, z, above q .1)) in (
+      close s .read ∙ above q .0,
+      rw some
+          (c .before .put2 .ensures
+          ∙ ap₂ (λ (w : List ℤ) (z : ℤ). put w ANCESTOR (stand s .e - 1) z)
+          (h .share .ensures ∙ ap₂ (λ (i n : ℕ). shared (work s) i (child s) n) (o .owner .ensures) (amount-read q))
+          (child-read s)),
+    )
+
+pub meet-spec : {M : Type 1} → statement M
+meet-spec =
+    tie.close
+    (tie.spec
+    cast-close
+    add-close
+    add-close-2
+    sub-close
+    sub-put
+    cast-put
+    put-requires
+    same-length
+    returns
+    sub-owner
+    owner-requires
+    cast-share
+    share-requires
+    sub-put-2
+    cast-put-2
+    put-requires-2
+    same-length-2
+    returns-2)

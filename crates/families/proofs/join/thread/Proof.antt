@@ -1,0 +1,260 @@
+-- `families::join::thread` meets its contract. Assumes nothing.
+use mathlib.Core.Path.{_≡_, refl, ap, _∙_}
+use mathlib.Core.List.{List}
+use Prim.Native.Nat.{ℕ, _+_, _-_, _≤_, _<_}
+use native.Mathlib.Omega.{arith}
+use borrow.Author.Needs.{needs}
+use borrow.Author.Tests.{lt-ltb, le-ltb}
+use lib.IntN.{ℤ, natAbs, _+ℤ_, _-ℤ_}
+use mir.Syntax.{w32}
+use mir.Val.{toZ, ofZ}
+use Rattle.rule.proofs.Signed.{natAbs-add, natAbs-sub}
+use Rattle.level_order.specs.Fields.{put, LEFT, RIGHT}
+use Rattle.level_order.proofs.Signed32.{Held, told, held, plus, minus}
+use Rattle.families.specs.declared.join.Stand.{Stand}
+use Rattle.families.specs.Descent.{Modest, Level, lower, firstOfChildren, pastChildren}
+use Rattle.families.proofs.join.thread.Statement.{statement}
+use Rattle.families.proofs.join.thread.Tie as tie
+
+modest-read : (z : ℤ) → Modest z → toZ w32 (ofZ w32 z) ≡ z
+modest-read z h = held {z = z} refl (omega arith) .read
+
+-- at the function's start
+module _ (s : tie.Start) where
+  abbrev work : List ℤ
+  work = s .args .work .now
+
+  abbrev stand : Stand
+  stand = s .args .s
+
+  abbrev level : Level work stand (s .args .f) (s .args .c) (s .args .default)
+  level = s .pre .0
+
+  -- the first position of the row, of the child and past it, one level down
+  abbrev next-a : ℕ
+  next-a = firstOfChildren work (stand .a)
+
+  abbrev next-b : ℕ
+  next-b = firstOfChildren work (stand .b)
+
+  abbrev next-e : ℕ
+  next-e = pastChildren work (stand .e - 1)
+
+  moved-read : toZ w32 (ofZ w32 (stand .moved)) ≡ stand .moved
+  moved-read = modest-read (stand .moved) (level .moved-modest)
+
+  last-held : Held (toZ w32 (ofZ w32 (stand .«outer_right»)) +ℤ toZ w32 (ofZ w32 (stand .moved))) (stand .«outer_right» +ℤ stand .moved)
+  last-held =
+      plus (modest-read (stand .«outer_right») (level .outer-right-modest)) moved-read
+      (omega (arith, natAbs-add (stand .«outer_right») (stand .moved), level .outer-right-modest, level .moved-modest))
+
+position-requires : tie.Need-position-requires
+position-requires c κs = c .before .pre .0 .looked .first-b
+
+position-requires-2 : tie.Need-position-requires-2
+position-requires-2 c κs = c .before .before .before .pre .0 .looked .first-a
+
+-- once the two contours' next nodes are read
+module _ (c : tie.After-position2) where
+  abbrev start : tie.Start
+  start = c .before .before .before .before
+
+  a-read : c .position2 .result ≡ next-a start
+  a-read = c .position2 .ensures
+
+  b-read : c .before .before .position .result ≡ next-b start
+  b-read = c .before .before .position .ensures
+
+-- ---- the row goes deeper
+
+row-deeper : (c : tie.Then1) → next-a (start (c .before)) < next-b (start (c .before))
+row-deeper c = omega (arith, c .if1 .taken, a-read (c .before), b-read (c .before))
+
+sub-get : tie.Need-sub-get
+sub-get c = search needs
+
+get-requires : tie.Need-get-requires
+get-requires c κs = search needs
+
+module _ (c : tie.After-struct-told) where
+  abbrev row : tie.Then1
+  row = c .before .before .before .before
+
+  abbrev row-start : tie.Start
+  row-start = start (row .before)
+
+  -- the row's next node, and the step to it from the child's last
+  right-held : Held (toZ w32 (ofZ w32 (stand row-start .right)) +ℤ toZ w32 (ofZ w32 (c .before .before .get .result))) (lower (work row-start) (stand row-start) .right)
+  right-held =
+      plus (modest-read (stand row-start .right) (level row-start .right-modest)) (told (c .before .before .get .ok) (c .before .before .get .ensures))
+      (omega (arith, row-start .pre .1 .row-deeper (row-deeper row)))
+
+  right-step : Held (toZ w32 (ofZ w32 (toZ w32 (ofZ w32 (stand row-start .right)) +ℤ toZ w32 (ofZ w32 (c .before .before .get .result))))
+      -ℤ toZ w32 (ofZ w32 (toZ w32 (ofZ w32 (stand row-start .«outer_right»)) +ℤ toZ w32 (ofZ w32 (stand row-start .moved)))))
+      (lower (work row-start) (stand row-start) .right -ℤ (stand row-start .«outer_right» +ℤ stand row-start .moved))
+  right-step =
+      minus (right-held .read) (last-held row-start .read)
+      (omega (
+        arith,
+        natAbs-sub (lower (work row-start) (stand row-start) .right) (stand row-start .«outer_right» +ℤ stand row-start .moved),
+        natAbs-add (stand row-start .«outer_right») (stand row-start .moved),
+        row-start .pre .1 .row-deeper (row-deeper row),
+        level row-start .outer-right-modest,
+        level row-start .moved-modest,
+      ))
+
+add-step : tie.Need-add-step
+add-step c = right-held c .fits
+
+add-step-2 : tie.Need-add-step-2
+add-step-2 c = last-held (row-start (c .before .before)) .fits
+
+sub-step : tie.Need-sub-step
+sub-step c = right-step (c .before .before) .fits
+
+sub-put : tie.Need-sub-put
+sub-put c = search needs
+
+put-requires : tie.Need-put-requires
+put-requires c κs =
+    let l = level (row-start (c .before .before .before)) in
+    omega (arith, l .inside .0, l .child)
+
+same-length : tie.Need-same-length
+same-length c = search needs
+
+returns : tie.Need-returns
+returns c =
+    let t = c .before .before .before .before .before in
+    let s = row-start t in
+    let test = lt-ltb (next-a s) (next-b s) (row-deeper (row t)) in
+    (rw test, rw test (c .before .put .ensures ∙ ap (put (work s) RIGHT (stand s .e - 1)) (right-step t .read)))
+
+-- ---- it does not
+
+sub-past : tie.Need-sub-past
+sub-past c = search needs
+
+past-requires : tie.Need-past-requires
+past-requires c κs = let L = start (c .before .before) .pre .0 .looked in (L .first-e, L .count-e)
+
+module _ (c : tie.After-past) where
+  abbrev firsts : tie.After-position2
+  firsts = c .before .before .before
+
+  abbrev past-start : tie.Start
+  past-start = start firsts
+
+  row-ends : next-b past-start ≤ next-a past-start
+  row-ends = omega (arith, c .before .before .if1 .left, a-read firsts, b-read firsts)
+
+  e-read : c .past .result ≡ next-e past-start
+  e-read = c .past .ensures
+
+child-deeper : (c : tie.Then2) → next-b (past-start (c .before)) < next-e (past-start (c .before))
+child-deeper c = omega (arith, c .if2 .taken, b-read (firsts (c .before)), e-read (c .before))
+
+get-requires-2 : tie.Need-get-requires-2
+get-requires-2 c κs = search needs
+
+module _ (c : tie.After-struct-told3) where
+  abbrev child : tie.Then2
+  child = c .before .before .before .before
+
+  abbrev child-start : tie.Start
+  child-start = past-start (child .before)
+
+  left-small : Modest (lower (work child-start) (stand child-start) .left)
+  left-small = child-start .pre .1 .child-deeper (child-deeper child)
+
+  -- the child's next node, as it has been moved, and the step to it from the row's first
+  left-held : Held (toZ w32 (ofZ w32 (stand child-start .left)) +ℤ toZ w32 (ofZ w32 (c .before .before .get2 .result))) (lower (work child-start) (stand child-start) .left)
+  left-held =
+      plus (modest-read (stand child-start .left) (level child-start .left-modest)) (told (c .before .before .get2 .ok) (c .before .before .get2 .ensures))
+      (omega (arith, left-small))
+
+  moved-held : Held (toZ w32 (ofZ w32 (toZ w32 (ofZ w32 (stand child-start .left)) +ℤ toZ w32 (ofZ w32 (c .before .before .get2 .result)))) +ℤ toZ w32 (ofZ w32 (stand child-start .moved)))
+      (lower (work child-start) (stand child-start) .left +ℤ stand child-start .moved)
+  moved-held =
+      plus (left-held .read) (moved-read child-start)
+      (omega (arith, natAbs-add (lower (work child-start) (stand child-start) .left) (stand child-start .moved), left-small, level child-start .moved-modest))
+
+  left-step : Held (toZ w32 (ofZ w32 (toZ w32 (ofZ w32 (toZ w32 (ofZ w32 (stand child-start .left)) +ℤ toZ w32 (ofZ w32 (c .before .before .get2 .result)))) +ℤ toZ w32 (ofZ w32 (stand child-start .moved))))
+      -ℤ toZ w32 (ofZ w32 (stand child-start .«outer_left»)))
+      ((lower (work child-start) (stand child-start) .left +ℤ stand child-start .moved) -ℤ stand child-start .«outer_left»)
+  left-step =
+      minus (moved-held .read) (modest-read (stand child-start .«outer_left») (level child-start .outer-left-modest))
+      (omega (
+        arith,
+        natAbs-sub (lower (work child-start) (stand child-start) .left +ℤ stand child-start .moved) (stand child-start .«outer_left»),
+        natAbs-add (lower (work child-start) (stand child-start) .left) (stand child-start .moved),
+        left-small,
+        level child-start .moved-modest,
+        level child-start .outer-left-modest,
+      ))
+
+add-step-3 : tie.Need-add-step-3
+add-step-3 c = left-held c .fits
+
+add-step-4 : tie.Need-add-step-4
+add-step-4 c = moved-held (c .before .before) .fits
+
+sub-step-2 : tie.Need-sub-step-2
+sub-step-2 c = left-step (c .before .before .before .before) .fits
+
+put-requires-2 : tie.Need-put-requires-2
+put-requires-2 c κs =
+    let l = level (child-start (c .before .before .before .before .before)) in
+    omega (arith, l .inside .0, l .child, l .row)
+
+same-length-2 : tie.Need-same-length-2
+same-length-2 c = search needs
+
+returns-2 : tie.Need-returns-2
+returns-2 c =
+    let q = c .before .before .before .before .before .before .before in
+    let s = child-start q in
+    let row-test = le-ltb (next-a s) (next-b s) (row-ends (child q .before)) in
+    let child-test = lt-ltb (next-b s) (next-e s) (child-deeper (child q)) in (
+      rw (row-test, child-test),
+      rw (row-test, child-test) (c .before .put2 .ensures ∙ ap (put (work s) LEFT (stand s .a)) (left-step q .read)),
+    )
+
+same-length-3 : tie.Need-same-length-3
+same-length-3 c = search needs
+
+returns-3 : tie.Need-returns-3
+returns-3 c =
+    let q = c .before in
+    let s = past-start q in
+    let child-ends : next-e s ≤ next-b s = omega (arith, c .if2 .left, b-read (firsts q), e-read q) in
+    let row-test = le-ltb (next-a s) (next-b s) (row-ends q) in
+    let child-test = le-ltb (next-b s) (next-e s) child-ends in
+    (rw (row-test, child-test), rw (row-test, child-test))
+
+pub thread-spec : {M : Type 1} → statement M
+thread-spec =
+    tie.close
+    (tie.spec
+    position-requires
+    position-requires-2
+    sub-get
+    get-requires
+    add-step
+    add-step-2
+    sub-step
+    sub-put
+    put-requires
+    same-length
+    returns
+    sub-past
+    past-requires
+    get-requires-2
+    add-step-3
+    add-step-4
+    sub-step-2
+    put-requires-2
+    same-length-2
+    returns-2
+    same-length-3
+    returns-3)

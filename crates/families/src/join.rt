@@ -1,0 +1,176 @@
+// Joins one child to its elder siblings: the right contour of the row and the left contour of the child are walked down together.
+ghost use mathlib.Core.Path.{_≡_};
+ghost use mathlib.Core.Bool.{true};
+ghost use Prim.Native.Nat.{_+_, _-_, _*_, _≤_, _<_};
+ghost use lib.IntN.{pos, _+ℤ_};
+ghost use lib.ListN.{length};
+ghost use Rattle.rule.specs.Join.{above0};
+ghost use Rattle.level_order.specs.Fields;
+ghost use Rattle.families.specs.Descent.{Reads, Modest, Looked, Level, Threads, Steps, topLevel, lower, tooClose, worked, isEnd, threaded, newDefault};
+ghost use Rattle.families.specs.Joining.{Given, Rowed, Waiting, Joined};
+use level_order::field::ANCESTOR;
+use level_order::field::COUNT;
+use level_order::field::FIRST;
+use level_order::field::LEFT;
+use level_order::field::PLACE;
+use level_order::field::RIGHT;
+use level_order::field::get;
+use level_order::field::put;
+use super::owner::owner;
+use super::share::share;
+
+// Where the walk stands: on one level the row's nodes are at the positions from a to b and the child's from b to e. The places are those
+// of b - 1, b, a and e - 1, the child's as it started; `moved` is how far it has been moved.
+pub struct Stand {
+    pub a: usize,
+    pub b: usize,
+    pub e: usize,
+    pub right: i32,
+    pub left: i32,
+    pub outer_left: i32,
+    pub outer_right: i32,
+    pub moved: i32,
+}
+
+// A field that holds a position or a count.
+pub fn position(work: &[i32], p: usize, field: usize) -> usize
+    requires { ⌜ Reads (now work) field p ⌝ }
+    ensures { λ r. ⌜ r ≡ above0 (Fields.get (now (work .entry)) field p) ⌝ }
+{
+    get(work, p, field) as usize
+}
+
+// The position past the children of position p.
+pub fn past(work: &[i32], p: usize) -> usize
+    requires { ⌜ (Reads (now work) Fields.FIRST p) × (Reads (now work) Fields.COUNT p) ⌝ }
+    ensures { λ r. ⌜ r ≡ above0 (Fields.get (now (work .entry)) Fields.FIRST p) + above0 (Fields.get (now (work .entry)) Fields.COUNT p) ⌝ }
+{
+    position(work, p, FIRST) + position(work, p, COUNT)
+}
+
+// The top level: the last child joined and the new child, which starts at the separation after it.
+fn begin(work: &[i32], f: usize, c: usize, separation: i32) -> Stand
+    requires { ⌜ (f < c) × (c < 1024) × (16 * c ≤ length (now work)) ⌝ }
+    requires { ⌜ (Modest (Fields.get (now work) Fields.PLACE (c - 1))) × (Modest separation) ⌝ }
+    ensures { λ r. ⌜ r ≡ topLevel (now (work .entry)) f c separation ⌝ }
+{
+    let before = get(work, c - 1, PLACE);
+    let start = before + separation;
+    Stand {
+        a: f,
+        b: c,
+        e: c + 1,
+        right: before,
+        left: start,
+        outer_left: get(work, f, PLACE),
+        outer_right: start,
+        moved: 0,
+    }
+}
+
+// By how much the child has to move on this level; the children between it and the one it meets get their shares.
+fn meet(work: &mut [i32], s: Stand, f: usize, c: usize, default: usize, separation: u16) -> i32
+    requires { ⌜ Level (now work) s f c default ⌝ }
+    requires { ⌜ (separation ≤ 1024) × (tooClose s separation ≤ 4194304) ⌝ }
+    ensures { λ r. ⌜ (r ≡ pos (tooClose s separation)) × (now (work .exit) ≡ worked (now (work .entry)) s f c default separation) ⌝ }
+{
+    let b = s.b;
+    let e = s.e;
+    let close = s.right + separation as i32 - (s.left + s.moved);
+    if close <= 0 {
+        put(work, e - 1, ANCESTOR, c as i32);
+        return 0;
+    }
+    let i = owner(work, b - 1, f, c, default);
+    share(work, i, c, close as usize);
+    put(work, e - 1, ANCESTOR, c as i32);
+    close
+}
+
+// Whether either contour has no further level.
+fn ended(work: &[i32], s: Stand) -> bool
+    requires { ⌜ Looked (now work) s ⌝ }
+    ensures { λ r. ⌜ r ≡ isEnd (now (work .entry)) s ⌝ }
+{
+    let a = s.a;
+    let b = s.b;
+    let e = s.e;
+    let next = position(work, b, FIRST);
+    if position(work, a, FIRST) == next {
+        return true;
+    }
+    next == past(work, e - 1)
+}
+
+// One level down.
+fn descend(work: &[i32], s: Stand) -> Stand
+    requires { ⌜ (Looked (now work) s) × (Steps (now work) s) ⌝ }
+    requires { ⌜ (s .a < s .b) × (s .b < s .e) × (s .e ≤ 1024) × (16 * s .e ≤ length (now work)) ⌝ }
+    ensures { λ r. ⌜ r ≡ lower (now (work .entry)) s ⌝ }
+{
+    let a = s.a;
+    let b = s.b;
+    let e = s.e;
+    Stand {
+        a: position(work, a, FIRST),
+        b: position(work, b, FIRST),
+        e: past(work, e - 1),
+        right: s.right + get(work, b - 1, RIGHT),
+        left: s.left + get(work, b, LEFT),
+        outer_left: s.outer_left + get(work, a, LEFT),
+        outer_right: s.outer_right + get(work, e - 1, RIGHT),
+        moved: s.moved,
+    }
+}
+
+// Threads the longer contour to the end of the shorter one, and says which child is the default now.
+fn thread(work: &mut [i32], s: Stand, f: usize, c: usize, default: usize) -> usize
+    requires { ⌜ (Level (now work) s f c default) × (Threads (now work) s) ⌝ }
+    ensures { λ r. ⌜ (r ≡ newDefault (now (work .entry)) s c default) × (now (work .exit) ≡ threaded (now (work .entry)) s) ⌝ }
+{
+    let a = s.a;
+    let b = s.b;
+    let e = s.e;
+    let next = position(work, b, FIRST);
+    if position(work, a, FIRST) < next {
+        let step = s.right + get(work, b - 1, RIGHT) - (s.outer_right + s.moved);
+        put(work, e - 1, RIGHT, step);
+        return default;
+    }
+    if next < past(work, e - 1) {
+        let step = s.left + get(work, b, LEFT) + s.moved - s.outer_left;
+        put(work, a, LEFT, step);
+        return c;
+    }
+    default
+}
+
+// Joins the child at position c to those from f to c, of the children from f to end, and says which child is the default now.
+pub fn join(
+    table: &[u16],
+    work: &mut [i32],
+    f: usize,
+    c: usize,
+    end: usize,
+    default: usize,
+    separation: u16,
+) -> usize
+    requires { ⌜ Given (now table) separation ⌝ }
+    requires { ⌜ Rowed (now table) separation f c end default (now work) ⌝ }
+    requires { ⌜ (Waiting (now table) separation f end c (now work)) × (c < end) ⌝ }
+    ensures { λ r. ⌜ Joined (now (table .entry)) separation f c end r (now (work .entry)) (now (work .exit)) ⌝ }
+{
+    let mut s = begin(work, f, c, separation as i32);
+    let start = s.left;
+    'contours: loop {
+        let amount = meet(work, s, f, c, default, separation);
+        s.moved = s.moved + amount;
+        if ended(work, s) {
+            break 'contours;
+        }
+        s = descend(work, s);
+    }
+    let next = thread(work, s, f, c, default);
+    put(work, c, PLACE, start + s.moved);
+    next
+}

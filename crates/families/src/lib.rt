@@ -1,0 +1,35 @@
+// Draws every family, from the last position to the first.
+ghost use Prim.Native.Nat.{_-_, _<_};
+ghost use Rattle.tree.specs.Forest.{treeOf};
+ghost use Rattle.tree.specs.Table.{nodes};
+ghost use Rattle.level_order.specs.Fields;
+ghost use Rattle.families.specs.Joining.{Given};
+ghost use Rattle.level_order.specs.Numbered.{Numbered, Fresh};
+ghost use Rattle.families.specs.Families.{FamiliesFrom};
+
+mod execute;
+mod family;
+mod join;
+mod owner;
+mod share;
+
+use level_order::field::FIRST;
+use level_order::field::PLACE;
+use level_order::field::put;
+
+// Gives every position but the root's its offset from its parent, and the root its place 0.
+pub fn families(table: &[u16], separation: u16, work: &mut [i32])
+    requires { ⌜ Given (now table) separation ⌝ }
+    requires { ⌜ Numbered (treeOf (now table)) (nodes (now table)) (now work) ⌝ }
+    requires { ⌜ Fresh (nodes (now table)) (now work) ⌝ }
+    ensures { λ _. ⌜ FamiliesFrom (now (table .entry)) separation (now (work .entry)) (now (work .exit)) ⌝ }
+{
+    let mut p = table.len() / 2;
+    while 0 < p {
+        p -= 1;
+        if join::position(work, p, FIRST) < join::past(work, p) {
+            family::family(table, separation, work, p);
+        }
+    }
+    put(work, 0, PLACE, 0);
+}

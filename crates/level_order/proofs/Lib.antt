@@ -1,0 +1,19 @@
+-- Why the numbering gives level order, and what level order is good for. Below: the forest of the nodes that wait, runs of positions, the
+-- queue in the working slice, the numbering of a table, and the order of its levels. `contours`, `families` and `layout` stand on it.
+pub mod Waiting
+pub mod FirstAt
+pub mod InQueue
+pub mod Positions
+pub mod InOrder
+pub mod Occurs
+pub mod Rename
+pub mod PositionTree
+pub mod Order
+pub mod Beside
+pub mod Signed32
+pub mod Cells
+pub mod Queued
+pub mod Appending
+pub mod Settled
+pub mod Numbering
+pub mod TableNumbering
