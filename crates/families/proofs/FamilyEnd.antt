@@ -18,7 +18,7 @@ use Rattle.rule.specs.Join.{above0}
 use Rattle.rule.proofs.Signed.{below0, parts-add}
 use Rattle.level_order.specs.Fields.{get, put, NODE, FIRST, COUNT, PARENT, PLACE, LEFT, RIGHT, ANCESTOR, SHIFT, CHANGE}
 use Rattle.contours.specs.Gather.{pending}
-use Rattle.families.specs.Leaves.{half, Bounded, Executed}
+use Rattle.shifts.specs.Shifts.{half, Bounded, Executed}
 use Rattle.contours.specs.Rows.{Subtree, rowDrawn, placeAt}
 use Rattle.families.specs.Joining.{Given, occurs}
 use Rattle.families.specs.Families.{Ready, AllJoined, FamilyDrawn}

@@ -24,11 +24,12 @@ use Rattle.contours.proofs.Gathered.{Met}
 use Rattle.contours.proofs.Walk.{Fields, Walking, Turned, amount, owner, whole-now, moved-now}
 use Rattle.contours.proofs.RowNext.{fieldsOf}
 use Rattle.families.specs.declared.join.Stand.{Stand}
-use Rattle.families.specs.Leaves.{ownerOf, shared}
+use Rattle.shifts.specs.Shifts.{shared}
+use Rattle.families.specs.Descent.{ownerOf}
 use Rattle.families.specs.Descent.{tooClose, noted, worked}
 use Rattle.families.specs.Joining.{columnsOf, occurs}
 use Rattle.families.proofs.OwnerOf.{owner-child, owner-default}
-use Rattle.families.proofs.Shared.{shared-length, shared-position, shared-field, shared-rest, shared-met, shared-grown}
+use Rattle.shifts.proofs.Shared.{shared-length, shared-position, shared-field, shared-rest, shared-met, shared-grown}
 use Rattle.families.proofs.Joining.{Joining, S, row, startAt, J, F, row-wide, spaced-row, small-n, apart, row-on, child-on, next-last, next-bound}
 use Rattle.families.proofs.Contour.{Kept, Contour, standOf, room, last-row-on, last-child-on, e-few, last-position, last-child-position}
 

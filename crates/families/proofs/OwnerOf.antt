@@ -12,7 +12,7 @@ use mir.Syntax.{w64}
 use mir.Val.{Fits}
 use Rattle.tree.proofs.Counting.{below-or-not}
 use Rattle.contours.specs.Rows.{Outside}
-use Rattle.families.specs.Leaves.{ownerOf}
+use Rattle.families.specs.Descent.{ownerOf}
 
 -- an ancestor below 0
 pub owner-below : (z : ℤ) (f c default : ℕ) → ltZ z (pos 0) ≡ true → ownerOf z f c default ≡ default

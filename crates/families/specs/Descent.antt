@@ -4,12 +4,12 @@ use mathlib.Core.Path.{_≡_}
 use mathlib.Core.Bool.{Bool, cond, _||_}
 use mathlib.Core.List.{List}
 use lib.Dec.{eqb, ltb}
-use lib.IntN.{ℤ, pos, natAbs, _+ℤ_, _-ℤ_}
+use lib.IntN.{ℤ, pos, negsuc, natAbs, _+ℤ_, _-ℤ_}
 use lib.ListN.{length}
 use Rattle.rule.specs.Join.{above0}
 use Rattle.level_order.specs.Fields.{cell, get, put, FIRST, COUNT, PLACE, LEFT, RIGHT, ANCESTOR, SHIFT, CHANGE}
+use Rattle.shifts.specs.Shifts.{shared}
 use Rattle.families.specs.declared.join.Stand.{Stand}
-use Rattle.families.specs.Leaves.{ownerOf, shared}
 
 -- the field is inside the slice and holds a small number that is not negative
 pub record Reads (work : List ℤ) (field p : ℕ) : Type 0 where
@@ -80,6 +80,13 @@ pub record Level (work : List ℤ) (s : Stand) (f c default : ℕ) : Type 0 wher
   pub moved-modest : Modest (s .moved)
   pub gathered : (p : ℕ) → f ≤ p → p ≤ c → Modest (get work SHIFT p) × Modest (get work CHANGE p)
   pub looked : Looked work s
+
+-- ---- whose is a node
+
+-- the ancestor where it is one of the positions from f up to, and without, c, else the default
+abbrev pub ownerOf : ℤ → ℕ → ℕ → ℕ → ℕ
+ownerOf (pos k) f c default = cond (ltb k f) default (cond (ltb k c) k default)
+ownerOf (negsuc k) f c default = default
 
 -- ---- one level
 

@@ -1,6 +1,5 @@
 -- Families: how the children of one node are joined in the working slice, and what each step asks and leaves. Stands on `contours`, whose
 -- rows and subtrees it speaks of; `layout` calls it between the numbering and the last pass.
-pub mod Leaves
 pub mod Descent
 pub mod Joining
 pub mod Families

@@ -17,7 +17,7 @@ use level_order::field::RIGHT;
 use level_order::field::get;
 use level_order::field::put;
 use super::owner::owner;
-use super::share::share;
+use shifts::share;
 
 // Where the walk stands: on one level the row's nodes are at the positions from a to b and the child's from b to e. The places are those
 // of b - 1, b, a and e - 1, the child's as it started; `moved` is how far it has been moved.

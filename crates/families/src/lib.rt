@@ -7,11 +7,9 @@ ghost use Rattle.families.specs.Joining.{Given};
 ghost use Rattle.level_order.specs.Numbered.{Numbered, Fresh};
 ghost use Rattle.families.specs.Families.{FamiliesFrom};
 
-mod execute;
 mod family;
 mod join;
 mod owner;
-mod share;
 
 use level_order::field::FIRST;
 use level_order::field::PLACE;

@@ -4,7 +4,7 @@ ghost use Prim.Native.Nat.{_<_};
 ghost use lib.ListN.{length};
 ghost use Rattle.level_order.specs.Fields;
 ghost use Rattle.level_order.specs.Fields.{cell};
-ghost use Rattle.families.specs.Leaves.{ownerOf};
+ghost use Rattle.families.specs.Descent.{ownerOf};
 use level_order::field::ANCESTOR;
 use level_order::field::get;
 

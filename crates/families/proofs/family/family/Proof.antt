@@ -17,7 +17,7 @@ use Rattle.rule.specs.Join.{above0}
 use Rattle.level_order.specs.LevelOrder.{firstAt}
 use Rattle.level_order.specs.Fields.{get, put, FIRST, COUNT, PLACE, LEFT, RIGHT}
 use Rattle.families.specs.Descent.{Reads}
-use Rattle.families.specs.Leaves.{Bounded, Executed}
+use Rattle.shifts.specs.Shifts.{Bounded, Executed}
 use Rattle.families.specs.Joining.{Given}
 use Rattle.families.specs.Families.{Ready, Begun, AllJoined}
 use Rattle.level_order.proofs.Cells.{put-length}

@@ -16,7 +16,7 @@ use Rattle.rule.proofs.Signed.{natAbs-add, natAbs-sub}
 use Rattle.level_order.specs.Fields.{get, put, ANCESTOR}
 use Rattle.level_order.proofs.Signed32.{Held, held, plus, minus, signed, unsigned, unsigned-fits}
 use Rattle.families.specs.declared.join.Stand.{Stand}
-use Rattle.families.specs.Leaves.{shared}
+use Rattle.shifts.specs.Shifts.{shared}
 use Rattle.families.specs.Descent.{Level, tooClose}
 use Rattle.families.proofs.OwnerOf.{owner-range}
 use Rattle.families.proofs.join.meet.Statement.{statement}

@@ -7,7 +7,7 @@ use lib.Signed.{mag}
 use mir.Syntax.{w32}
 use mir.Val.{toZ, ofZ}
 use Rattle.level_order.specs.Fields.{get, ANCESTOR}
-use Rattle.families.specs.Leaves.{ownerOf}
+use Rattle.families.specs.Descent.{ownerOf}
 use Rattle.level_order.proofs.Signed32.{told}
 use Rattle.families.proofs.OwnerOf.{owner-below, owner-left, owner-at, owner-right, not-below, not-below-fits}
 use Rattle.families.proofs.owner.owner.Statement.{statement}

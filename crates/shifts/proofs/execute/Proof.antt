@@ -1,4 +1,4 @@
--- `families::execute::execute` meets its contract. The measure is the position. Assumes nothing.
+-- `shifts::execute` meets its contract. The measure is the position. Assumes nothing.
 use mathlib.Core.Path.{_≡_, refl, sym, ap, _∙_, subst}
 use mathlib.Core.List.{List}
 use Prim.Native.Nat.{ℕ, suc, _+_, _-_, _*_, _≤_, _<_}
@@ -12,11 +12,11 @@ use mir.Val.{toZ, ofZ}
 use Rattle.rule.proofs.Signed.{natAbs-add, natAbs-sub}
 use Rattle.level_order.specs.Fields.{get, put, PLACE, SHIFT, CHANGE}
 use Rattle.level_order.proofs.Signed32.{Held, told, held, plus, minus}
-use Rattle.families.specs.Leaves.{half, Executed}
-use Rattle.families.proofs.Executing.{Pass, Executing, execute-start, half-read, half-small}
-use Rattle.families.proofs.Executing as pass
-use Rattle.families.proofs.execute.execute.Statement.{statement}
-use Rattle.families.proofs.execute.execute.Tie as tie
+use Rattle.shifts.specs.Shifts.{half, Executed}
+use Rattle.shifts.proofs.Executing.{Pass, Executing, execute-start, half-read, half-small}
+use Rattle.shifts.proofs.Executing as pass
+use Rattle.shifts.proofs.execute.Statement.{statement}
+use Rattle.shifts.proofs.execute.Tie as tie
 
 abbrev Inv-loop : tie.InvT-loop
 Inv-loop work₀ f end middle sum₀ rate₀ p₀ work sum rate p = Executing f end work₀ work (toZ w32 sum) (toZ w32 rate) p

@@ -1,21 +1,12 @@
--- What the small steps of joining a family do: the owner of a node, one meeting's share, and the pass that carries the gathered moves out.
-use Prim.Native.Nat.{ℕ, suc, _-_, _*_, _/_, _≤_, _<_}
+-- What one meeting leaves in the working slice, and what the pass that carries the gathered moves out does.
+use Prim.Native.Nat.{ℕ, _-_, _*_, _/_, _≤_, _<_}
 use mathlib.Core.Path.{_≡_}
-use mathlib.Core.Bool.{cond}
 use mathlib.Core.List.{List}
-use lib.Dec.{ltb}
-use lib.IntN.{ℤ, pos, negsuc, _+ℤ_, _-ℤ_, natAbs}
+use lib.IntN.{ℤ, pos, natAbs, _+ℤ_, _-ℤ_}
 use lib.ListN.{length, drop}
 use Rattle.rule.specs.Join.{above0}
 use Rattle.level_order.specs.Fields.{get, put, PLACE, SHIFT, CHANGE}
 use Rattle.contours.specs.Gather.{pending}
-
--- ---- whose is a node
-
--- the ancestor where it is one of the positions from f up to, and without, c, else the default
-abbrev pub ownerOf : ℤ → ℕ → ℕ → ℕ → ℕ
-ownerOf (pos k) f c default = cond (ltb k f) default (cond (ltb k c) k default)
-ownerOf (negsuc k) f c default = default
 
 -- ---- one meeting
 

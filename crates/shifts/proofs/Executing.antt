@@ -13,7 +13,7 @@ use Rattle.tree.proofs.Counting.{is-cases}
 use Rattle.rule.specs.Join.{above0}
 use Rattle.level_order.specs.Fields.{get, put, PLACE, SHIFT, CHANGE}
 use Rattle.contours.specs.Gather.{Carried, carry, gather, pending}
-use Rattle.families.specs.Leaves.{half, Bounded, Executed}
+use Rattle.shifts.specs.Shifts.{half, Bounded, Executed}
 use Rattle.level_order.proofs.Cells.{put-length, put-same, put-field, put-position, put-rest}
 use Rattle.rule.proofs.Signed.{natAbs-add, natAbs-parts}
 

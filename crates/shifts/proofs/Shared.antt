@@ -9,7 +9,7 @@ use lib.IntN.{ℤ, pos, natAbs}
 use lib.ListN.{length, drop}
 use Rattle.tree.proofs.Counting.{is-cases}
 use Rattle.level_order.specs.Fields.{cell, get, put, SHIFT, CHANGE}
-use Rattle.families.specs.Leaves.{quotient, rightShift, rightChange, leftChange, shared}
+use Rattle.shifts.specs.Shifts.{quotient, rightShift, rightChange, leftChange, shared}
 use Rattle.level_order.proofs.Cells.{put-length, put-same, put-field, put-position, put-rest}
 use Rattle.contours.proofs.Gathered.{Met}
 use Rattle.rule.proofs.Signed.{natAbs-add, natAbs-sub}

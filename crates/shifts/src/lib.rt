@@ -1,16 +1,37 @@
-// The gathered moves are carried out: one pass over a row, from right to left.
+// Shifts and changes. A meeting of two children leaves what those between them have to move as a shift and two changes; one pass over a row,
+// from right to left, carries all of it out.
 ghost use mathlib.Core.Path.{_≡_};
 ghost use mathlib.Core.Bool.{true};
 ghost use Prim.Native.Nat.{_-_, _*_, _≤_, _<_};
+ghost use lib.IntN.{natAbs};
 ghost use lib.ListN.{length};
 ghost use lib.Signed.{nonNeg};
 ghost use Rattle.level_order.specs.Fields;
-ghost use Rattle.families.specs.Leaves.{Bounded, Executed};
+ghost use Rattle.level_order.specs.Fields.{cell};
+ghost use Rattle.shifts.specs.Shifts.{shared, Bounded, Executed};
 use level_order::field::CHANGE;
 use level_order::field::PLACE;
 use level_order::field::SHIFT;
 use level_order::field::get;
 use level_order::field::put;
+
+// Shares s over the gaps between the children i and c.
+pub fn share(work: &mut [i32], i: usize, c: usize, s: usize)
+    requires { ⌜ (i < c) × (c < 1024) × (s ≤ 4194304) ⌝ }
+    requires { ⌜ cell c Fields.CHANGE < length (now work) ⌝ }
+    requires { ⌜ natAbs (Fields.get (now work) Fields.SHIFT c) ≤ 4194304 ⌝ }
+    requires { ⌜ natAbs (Fields.get (now work) Fields.CHANGE c) ≤ 4194304 ⌝ }
+    requires { ⌜ natAbs (Fields.get (now work) Fields.CHANGE i) ≤ 4194304 ⌝ }
+    ensures { λ _. ⌜ now (work .exit) ≡ shared (now (work .entry)) i c s ⌝ }
+{
+    let q = s / (c - i);
+    let shift = get(work, c, SHIFT);
+    let right = get(work, c, CHANGE);
+    let left = get(work, i, CHANGE);
+    put(work, c, SHIFT, shift + ((c - i) * q) as i32);
+    put(work, c, CHANGE, right - q as i32);
+    put(work, i, CHANGE, left + q as i32);
+}
 
 // Moves the children at the positions from f to end by what is pending, and counts their places from the middle of the row.
 pub fn execute(work: &mut [i32], f: usize, end: usize)

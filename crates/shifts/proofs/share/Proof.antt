@@ -1,4 +1,4 @@
--- `families::share::share` meets its contract. Assumes nothing.
+-- `shifts::share` meets its contract. Assumes nothing.
 use mathlib.Core.Path.{_≡_, ap, ap₂, _∙_}
 use mathlib.Core.List.{List}
 use Prim.Native.Nat.{ℕ, _-_, _*_, _/_, _≤_}
@@ -12,8 +12,8 @@ use Rattle.level_order.specs.Fields.{get, put, SHIFT, CHANGE}
 
 use Rattle.level_order.proofs.Signed32.{Held, told, plus, minus, signed}
 use Rattle.rule.proofs.Signed.{natAbs-add, natAbs-sub}
-use Rattle.families.proofs.share.share.Statement.{statement}
-use Rattle.families.proofs.share.share.Tie as tie
+use Rattle.shifts.proofs.share.Statement.{statement}
+use Rattle.shifts.proofs.share.Tie as tie
 
 sub-q : tie.Need-sub-q
 sub-q c = search needs
