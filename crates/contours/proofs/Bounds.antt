@@ -16,7 +16,6 @@ use Rattle.rule.proofs.Spacing.{row-none}
 use Rattle.rule.proofs.Within.{OnLevel, top, down, on-left, on-right}
 use Rattle.rule.proofs.Width.{Narrow, span, narrow-draw, narrow-drawOnto, narrow-none, narrow-alone, last-mem}
 use Rattle.contours.specs.Rows.{placeAt, rowDrawn, childrenDrawn}
-
 use Rattle.level_order.proofs.Positions.{Ordered, mono-le, within, run, run-node, run-nil, run-cut}
 use Rattle.contours.proofs.Places.{row-width, row-first}
 use Rattle.contours.proofs.Steps.{row-top}

@@ -35,6 +35,7 @@ runs-beside first a b c (x ∷ xs) (y ∷ ys) r s = (
   some-front x y (r .3),
   runs-beside first (first a) (first b) (first c) xs ys (r .4) (s .4),
 )
+
 pub runs-dots : (first : ℕ → ℕ) (i : ℕ) (o : ℤ) (d : Drawing) (a b : ℕ) → Laid first a b (names d) → Runs first a b (dots i o d)
 runs-dots first i o none a b l = l
 runs-dots first i o (at v x below after) a b l =

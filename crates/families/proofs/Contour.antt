@@ -14,7 +14,7 @@ use Rattle.rule.specs.Join as rule
 use Rattle.rule.proofs.AtOnce.{total-append}
 use Rattle.rule.proofs.Within.{OnLevel}
 use Rattle.rule.proofs.Width.{last-mem, first-mem}
-use Rattle.level_order.specs.Fields.{get, FIRST, COUNT, PLACE, LEFT, RIGHT, ANCESTOR, SHIFT, CHANGE}
+use Rattle.level_order.specs.Fields.{get, FIRST, COUNT, LEFT, RIGHT, ANCESTOR, SHIFT, CHANGE}
 use Rattle.level_order.proofs.Positions.{within}
 use Rattle.contours.specs.Contours.{LeftSteps, RightSteps}
 use Rattle.contours.specs.Rows.{placeAt}
@@ -27,7 +27,7 @@ use Rattle.contours.proofs.Steps.{row-top}
 use Rattle.contours.proofs.RowNext.{fieldsOf}
 use Rattle.contours.proofs.Bounds.{on-here, row-near, alone-near}
 use Rattle.families.specs.declared.join.Stand.{Stand}
-use Rattle.families.specs.Descent.{Reads, Modest, Looked, Level, topLevel}
+use Rattle.families.specs.Descent.{Reads, Modest, Level, topLevel}
 use Rattle.families.specs.Joining.{columnsOf, occurs}
 use Rattle.families.proofs.Joining.{Joining, first, O, S, row, child, startAt, J, F, row-wide, small-n, row-runs, child-runs, child-left, child-right, last-at, start-at, start-here, next-last, next-bound, row-last-bound}
 

@@ -1,13 +1,13 @@
 -- From one level of the walk to the next: where both contours go on, the stand below. Assumes nothing.
 use mathlib.Core.Path.{_≡_, refl, sym, ap, _∙_, subst}
 use mathlib.Core.Logic.{_⊎_, inl, inr, ⊎-elim}
-use mathlib.Core.Bool.{true, false, true≢false}
+use mathlib.Core.Bool.{false, true≢false}
 use mathlib.Core.List.{List, [], _∷_, _++_, append-assoc, List·Memᴰ}
 use Prim.Native.Nat.{ℕ, suc, _+_, _-_, _<_}
 use native.Mathlib.Omega.{arith}
 use borrow.Author.Tests.{eq-eqb}
 use lib.Dec.{eqb}
-use lib.IntN.{ℤ, pos, _+ℤ_, _-ℤ_}
+use lib.IntN.{ℤ, pos, _+ℤ_}
 use lib.ListN.{length}
 use Rattle.refusal.proofs.Truth.{or-true}
 use Rattle.tree.specs.Table.{nodes}
@@ -23,7 +23,7 @@ use Rattle.contours.proofs.Walk as walk
 use Rattle.contours.proofs.RowNext.{fieldsOf}
 use Rattle.contours.proofs.Bounds.{on-here}
 use Rattle.families.specs.declared.join.Stand.{Stand}
-use Rattle.families.specs.Descent.{Level, Threads, Steps, lower, isEnd, firstOfChildren, pastChildren}
+use Rattle.families.specs.Descent.{Threads, Steps, lower, isEnd, firstOfChildren, pastChildren}
 use Rattle.families.specs.Joining.{columnsOf}
 use Rattle.families.proofs.Joining.{Joining, first, O, J, F}
 use Rattle.families.proofs.Contour.{Contour, standOf, pushed, row-modest, child-modest, level, a-few, b-few, e-few, last-position, last-child-position}

@@ -12,7 +12,7 @@ use Rattle.tree.specs.Forest.{treeOf}
 use Rattle.tree.proofs.Counting.{is-cases, below-or-not}
 use Rattle.rule.specs.Join.{above0}
 use Rattle.level_order.specs.LevelOrder.{firstAt}
-use Rattle.level_order.specs.Fields.{get, put, NODE, FIRST, COUNT, PARENT, PLACE, LEFT, RIGHT, ANCESTOR, SHIFT, CHANGE}
+use Rattle.level_order.specs.Fields.{get, put, NODE, FIRST, COUNT, PLACE, LEFT, RIGHT, ANCESTOR, SHIFT, CHANGE}
 use Rattle.level_order.specs.Numbered.{Numbered, Fresh}
 use Rattle.contours.specs.Rows.{Subtree}
 use Rattle.families.specs.Descent.{Reads}

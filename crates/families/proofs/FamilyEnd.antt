@@ -16,7 +16,7 @@ use Rattle.tree.proofs.Followed.{accepted-linked}
 use Rattle.rule.specs.Drawing.{Drawing, width, firstPlace, lastPlace, middle}
 use Rattle.rule.specs.Join.{above0}
 use Rattle.rule.proofs.Signed.{below0, parts-add}
-use Rattle.level_order.specs.Fields.{get, put, NODE, FIRST, COUNT, PARENT, PLACE, LEFT, RIGHT, ANCESTOR, SHIFT, CHANGE}
+use Rattle.level_order.specs.Fields.{get, put, PLACE, LEFT, RIGHT, ANCESTOR, SHIFT, CHANGE}
 use Rattle.contours.specs.Gather.{pending}
 use Rattle.shifts.specs.Shifts.{half, Bounded, Executed}
 use Rattle.contours.specs.Rows.{Subtree, rowDrawn, placeAt}

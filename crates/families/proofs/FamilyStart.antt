@@ -9,7 +9,6 @@ use lib.IntN.{ℤ, pos, _+ℤ_, _-ℤ_, natAbs}
 use lib.ListN.{length}
 use Rattle.tree.specs.Table.{nodes}
 use Rattle.tree.specs.Forest.{Forest, treeOf}
-use Rattle.tree.specs.WellFormed.{tableNumber}
 use Rattle.tree.proofs.Counting.{All}
 use Rattle.rule.specs.Drawing.{none, width, middle, Dot, dots, rowDots, lastOf}
 use Rattle.rule.specs.Join.{above0, alone}
@@ -21,7 +20,6 @@ use Rattle.level_order.specs.LevelOrder.{firstAt}
 use Rattle.level_order.specs.Fields.{get, put, NODE, FIRST, COUNT, PLACE, LEFT, RIGHT, ANCESTOR, SHIFT, CHANGE}
 use Rattle.level_order.specs.Numbered.{Numbered}
 use Rattle.contours.specs.Gather.{gather, pending}
-
 use Rattle.contours.specs.Contours.{LeftSteps, RightSteps}
 use Rattle.contours.specs.Rows.{Outside, Owned, Subtree, Row, rowDrawn, childrenDrawn, placeAt}
 use Rattle.families.specs.Joining.{columnsOf, occurs, Rowed, Given}

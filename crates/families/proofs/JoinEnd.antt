@@ -17,14 +17,14 @@ use Rattle.level_order.specs.Fields.{get, put, NODE, FIRST, COUNT, PLACE, LEFT,
 use Rattle.level_order.proofs.Cells.{put-length, put-same, put-field, put-position, put-rest}
 use Rattle.contours.specs.Rows.{Outside, Owned, Row, rowDrawn}
 use Rattle.contours.specs.Contours.{LeftSteps, RightSteps}
-use Rattle.contours.proofs.Walk.{Fields, Walking}
+use Rattle.contours.proofs.Walk.{Fields}
 use Rattle.contours.proofs.WalkEnds.{Ended}
 use Rattle.contours.proofs.RowNext.{fieldsOf, row-next}
 use Rattle.families.specs.declared.join.Stand.{Stand}
 use Rattle.families.specs.Descent.{lower, isEnd, firstOfChildren, pastChildren, threaded, newDefault}
 use Rattle.families.specs.Joining.{columnsOf, Rowed, Untouched, Joined}
 use Rattle.families.proofs.Joining.{Joining, first, O, S, row, startAt, J, F, spaced-row, small-n, occurs-next, apart, row-on, start-at, next-last}
-use Rattle.families.proofs.Contour.{Kept, Contour, standOf, pushed}
+use Rattle.families.proofs.Contour.{Kept, Contour, pushed}
 use Rattle.families.proofs.Meeting.{moved, next}
 use Rattle.families.proofs.Deeper.{first-a, first-b, past-e, rows-below, children-below}
 use Rattle.families.proofs.Stale.{all-lasts}

@@ -13,7 +13,7 @@ use Rattle.level_order.proofs.Cells.{put-length, put-same, put-field, put-posit
 use Rattle.contours.specs.Contours.{LeftSteps, RightSteps}
 use Rattle.contours.proofs.Runs.{Runs}
 use Rattle.contours.proofs.Steps.{left-frame, right-frame, all-inner, inner-weaken, inner-first, inner-last}
-use Rattle.contours.proofs.Walk.{Fields, Walking}
+use Rattle.contours.proofs.Walk.{Walking}
 use Rattle.contours.proofs.WalkEnds.{Ended, child-ends, row-ends}
 use Rattle.contours.proofs.RowNext.{fieldsOf}
 use Rattle.families.specs.declared.join.Stand.{Stand}
@@ -80,7 +80,7 @@ module _ {K : Joining} {now : List ℤ} {s : Stand} (C : Contour K now s) where
   pub ends-both : W .xs ≡ [] → W .ys ≡ [] → Ends K after after (moved C) default
   ends-both ex ey =
       record {
-        ended = ended-by-child after ey (λ x xs e. absurd (nil-cons (sym ex ∙ e)));
+        ended = ended-by-child after ey (λ x xs e. absurd (let z : _≡_ {A = ℕ} 0 1 = cc (sym ex ∙ e) in omega arith));
         stepped = stepped;
         size = refl;
         rest = refl;
@@ -89,13 +89,6 @@ module _ {K : Joining} {now : List ℤ} {s : Stand} (C : Contour K now s) where
         default-low = K .joins .rowed .default-low;
         default-high = omega (arith, K .joins .rowed .default-high);
       }
-    where
-      shape : List (List Dot) → Type 0
-      shape [] = Unit {0}
-      shape (x ∷ xs) = ⊥
-
-      nil-cons : {x : List Dot} {xs : List (List Dot)} → [] ≡ x ∷ xs → ⊥
-      nil-cons e = subst shape e tt
 
   -- ---- a step is written at a node of the row or of the child
 

@@ -15,7 +15,6 @@ use Rattle.level_order.specs.Fields.{get, PLACE, LEFT, RIGHT, ANCESTOR, SHIFT, 
 use Rattle.level_order.specs.Numbered.{Numbered}
 use Rattle.contours.specs.Rows.{Columns, Outside, Subtree, Row, rowDrawn}
 
-
 -- the fields of a family
 abbrev pub columnsOf : List ℤ → Columns
 columnsOf work =

@@ -3,6 +3,9 @@ ghost use Prim.Native.Nat.{_+_, _-_, _<_};
 ghost use Rattle.level_order.specs.Fields;
 ghost use Rattle.families.specs.Joining.{Given};
 ghost use Rattle.families.specs.Families.{Ready, FamilyDrawn, Begun, AllJoined};
+use super::join::join;
+use super::join::past;
+use super::join::position;
 use level_order::field::FIRST;
 use level_order::field::LEFT;
 use level_order::field::PLACE;
@@ -10,9 +13,6 @@ use level_order::field::RIGHT;
 use level_order::field::get;
 use level_order::field::put;
 use shifts::execute;
-use super::join::join;
-use super::join::past;
-use super::join::position;
 
 // Joins the children of one node after the first, each to those before it.
 fn others(table: &[u16], separation: u16, work: &mut [i32], f: usize, end: usize)

@@ -2,12 +2,13 @@
 ghost use mathlib.Core.Path.{_≡_};
 ghost use mathlib.Core.Bool.{true};
 ghost use Prim.Native.Nat.{_+_, _-_, _*_, _≤_, _<_};
-ghost use lib.IntN.{pos, _+ℤ_};
+ghost use lib.IntN.{pos};
 ghost use lib.ListN.{length};
 ghost use Rattle.rule.specs.Join.{above0};
 ghost use Rattle.level_order.specs.Fields;
 ghost use Rattle.families.specs.Descent.{Reads, Modest, Looked, Level, Threads, Steps, topLevel, lower, tooClose, worked, isEnd, threaded, newDefault};
 ghost use Rattle.families.specs.Joining.{Given, Rowed, Waiting, Joined};
+use super::owner::owner;
 use level_order::field::ANCESTOR;
 use level_order::field::COUNT;
 use level_order::field::FIRST;
@@ -16,7 +17,6 @@ use level_order::field::PLACE;
 use level_order::field::RIGHT;
 use level_order::field::get;
 use level_order::field::put;
-use super::owner::owner;
 use shifts::share;
 
 // Where the walk stands: on one level the row's nodes are at the positions from a to b and the child's from b to e. The places are those

@@ -5,7 +5,7 @@ use Prim.Native.Nat.{ℕ, _*_, _<_}
 use native.Mathlib.Omega.{arith}
 use lib.IntN.{ℤ, pos}
 use lib.ListN.{length, drop, length-set}
-use lib.Seq.{getD-set-same, getD-set-other, drop-set-lt, set-set}
+use lib.Seq.{getD-set-same, getD-set-other, drop-set-lt}
 use Rattle.level_order.specs.Fields.{cell, get, put}
 
 module _ (work : List ℤ) (field p : ℕ) (z : ℤ) where
@@ -14,9 +14,6 @@ module _ (work : List ℤ) (field p : ℕ) (z : ℤ) where
 
   pub put-same : cell p field < length work → get (put work field p z) field p ≡ z
   put-same h = getD-set-same work (cell p field) z (pos 0) h
-
-  pub put-put : (y : ℤ) → put (put work field p z) field p y ≡ put work field p y
-  put-put y = set-set work (cell p field) z y
 
   -- another field, of the same position or of another
   pub put-field : field < 16 → (other q : ℕ) → other < 16 → (other ≡ field → ⊥) → get (put work field p z) other q ≡ get work other q

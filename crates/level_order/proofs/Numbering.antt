@@ -1,24 +1,18 @@
 -- One turn of the numbering: position p is taken, its children are queued, and p is settled. Assumes nothing.
-use mathlib.Core.Path.{_≡_, refl, sym, ap, ap₂, _∙_, subst, subst₂}
+use mathlib.Core.Path.{_≡_, refl, sym, ap, _∙_, subst}
 use mathlib.Core.Logic.{⊎-elim}
 use mathlib.Core.List.{List}
 use Prim.Native.Nat.{ℕ, suc, _+_, _-_, _*_, _≤_, _<_}
 use native.Mathlib.Omega.{arith}
 use lib.IntN.{ℤ, pos}
 use lib.ListN.{length, drop}
-use Rattle.tree.specs.Table.{nodes}
-use Rattle.tree.specs.Forest.{Forest, nil, node, size, roots, entry, children, siblings, treeOf}
-use Rattle.tree.specs.Levels.{childrenOf}
-use Rattle.tree.specs.WellFormed.{tableNumber}
+use Rattle.tree.specs.Forest.{Forest, node, size, roots, entry, children}
 use Rattle.tree.proofs.Counting.{below-or-not}
-use Rattle.tree.proofs.Stands.{accepted-numbers, accepted-size}
-use Rattle.tree.proofs.Walked.{Leads, accepted-leads}
 use Rattle.level_order.specs.LevelOrder.{waiting, nodeAt, firstAt}
 use Rattle.level_order.specs.Fields.{get, NODE, FIRST, COUNT, PARENT, ANCESTOR, SHIFT, CHANGE}
-use Rattle.level_order.specs.Appending.{queued, appended, settled, Appended}
-use Rattle.level_order.specs.Numbered.{NumberedFrom}
-use Rattle.level_order.proofs.Waiting.{rootCount, waiting-node, waiting-leads, nodeAt-all}
-use Rattle.level_order.proofs.FirstAt.{firstAt-suc, firstAt-past, firstAt-end}
+use Rattle.level_order.specs.Appending.{queued, appended, settled}
+use Rattle.level_order.proofs.Waiting.{rootCount}
+use Rattle.level_order.proofs.FirstAt.{firstAt-suc, firstAt-past}
 use Rattle.level_order.proofs.Positions.{within}
 use Rattle.level_order.proofs.InOrder.{forest-ordered}
 use Rattle.level_order.proofs.InQueue.{child-at}

@@ -12,7 +12,7 @@ use Rattle.tree.specs.Forest.{Forest, nil, node, join, roots, size, entry, preo
 use Rattle.tree.specs.Levels.{levels, together}
 use Rattle.tree.specs.WellFormed.{tableNumber}
 use Rattle.tree.proofs.Counting.{is-cases, count-outside, below-or-not}
-use Rattle.tree.proofs.Places.{count-at, one-place}
+use Rattle.tree.proofs.Places.{count-at}
 use Rattle.tree.proofs.Walked.{oneDown, levels-down}
 use Rattle.tree.proofs.Stands.{Numbers, accepted-numbers, accepted-size}
 use Rattle.tree.proofs.Joined.{size-join, join-nil, join-assoc}
@@ -94,18 +94,11 @@ module _ (t : List ℕ) (accepted : tableNumber t ≡ 0) where
       (λ l. absurd (omega (arith, occurs (treeOf t) p (inside p h), count-outside (nodes t) (preorder (treeOf t)) (N .below) (nodeAt (treeOf t) p) (l .0))))
       (below-or-not (nodeAt (treeOf t) p) (nodes t))
 
-  -- every number below n has a position, and only one
+  -- every number below n has a position
   pub position-of : (v : ℕ) → v < nodes t → (p : ℕ) × (p < nodes t) × (nodeAt (treeOf t) p ≡ v)
   position-of v h =
       let r = position (treeOf t) v (omega (arith, N .each v h)) in
       (r .0, omega (arith, r .1, accepted-size t accepted), r .2)
-
-  pub one-position : (p q : ℕ) → p < nodes t → q < nodes t → nodeAt (treeOf t) p ≡ nodeAt (treeOf t) q → p ≡ q
-  one-position p q hp hq e =
-      one-place (nodeAt (treeOf t) p) 0 (together (levels (treeOf t)))
-      (omega (arith, count-levels (nodeAt (treeOf t) p) (treeOf t), N .each (nodeAt (treeOf t) p) (node-below p hp)))
-      p q (omega (arith, length-levels (treeOf t), inside p hp)) (omega (arith, length-levels (treeOf t), inside q hq))
-      (sym (node-order (treeOf t) p (inside p hp))) (sym (node-order (treeOf t) q (inside q hq)) ∙ sym e)
 
   -- the root stands at position 0
   pub root-first : nodeAt (treeOf t) 0 ≡ 0

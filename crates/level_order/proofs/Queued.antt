@@ -25,11 +25,6 @@ module _ (work : List ℤ) (p tail c : ℕ) where
       put-position (put work NODE tail (pos c)) PARENT tail (pos p) (omega arith) other q h d
       ∙ put-position work NODE tail (pos c) (omega arith) other q h d
 
-  pub queued-field : (other q : ℕ) → other < 16 → (other ≡ NODE → ⊥) → (other ≡ PARENT → ⊥) → get (queued work p tail c) other q ≡ get work other q
-  queued-field other q h d e =
-      put-field (put work NODE tail (pos c)) PARENT tail (pos p) (omega arith) other q h e
-      ∙ put-field work NODE tail (pos c) (omega arith) other q h d
-
   module _ (room : 16 * (tail + 1) ≤ length work) where
     pub queued-node : get (queued work p tail c) NODE tail ≡ pos c
     queued-node =
@@ -57,13 +52,6 @@ pub appended-before : (work : List ℤ) (p tail : ℕ) (cs : List ℕ) (other q 
 appended-before work p tail [] other q h k = refl
 appended-before work p tail (c ∷ cs) other q h k =
     appended-before (queued work p tail c) p (tail + 1) cs other q h (omega arith) ∙ queued-position work p tail c other q h (λ e. omega arith)
-
--- the other fields
-pub appended-field : (work : List ℤ) (p tail : ℕ) (cs : List ℕ) (other q : ℕ) → other < 16 → (other ≡ NODE → ⊥) → (other ≡ PARENT → ⊥)
-    → get (appended work p tail cs) other q ≡ get work other q
-appended-field work p tail [] other q h d e = refl
-appended-field work p tail (c ∷ cs) other q h d e =
-    appended-field (queued work p tail c) p (tail + 1) cs other q h d e ∙ queued-field work p tail c other q h d e
 
 pub appended-node : (work : List ℤ) (p tail : ℕ) (cs : List ℕ) → 16 * (tail + length cs) ≤ length work → (i : ℕ) → i < length cs
     → get (appended work p tail cs) NODE (tail + i) ≡ pos (getD cs i 0)

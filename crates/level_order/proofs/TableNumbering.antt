@@ -1,29 +1,24 @@
 -- The numbering of an accepted table: where it starts, one turn of it, and what it leaves. Assumes nothing.
-use mathlib.Core.Path.{_≡_, refl, sym, ap, ap₂, _∙_, subst, subst₂}
-use mathlib.Core.Logic.{⊎-elim}
+use mathlib.Core.Path.{_≡_, sym, ap, ap₂, _∙_, subst, subst₂}
 use mathlib.Core.List.{List}
 use Prim.Native.Nat.{ℕ, suc, _+_, _-_, _*_, _≤_, _<_}
 use native.Mathlib.Omega.{arith}
 use lib.IntN.{ℤ, pos}
-use lib.ListN.{length, drop}
+use lib.ListN.{length}
 use Rattle.tree.specs.Table.{nodes}
 use Rattle.tree.specs.Forest.{Forest, nil, node, size, roots, entry, children, siblings, treeOf}
 use Rattle.tree.specs.Levels.{childrenOf}
 use Rattle.tree.specs.WellFormed.{tableNumber}
-use Rattle.tree.proofs.Counting.{below-or-not}
 use Rattle.tree.proofs.Stands.{accepted-numbers, accepted-size}
 use Rattle.tree.proofs.Walked.{Leads, accepted-leads}
 use Rattle.level_order.specs.LevelOrder.{waiting, nodeAt, firstAt}
-use Rattle.level_order.specs.Fields.{get, NODE, FIRST, COUNT, PARENT, ANCESTOR, SHIFT, CHANGE}
+use Rattle.level_order.specs.Fields.{get, NODE}
 use Rattle.level_order.specs.Appending.{queued, appended, settled, Appended}
 use Rattle.level_order.specs.Numbered.{NumberedFrom}
 use Rattle.level_order.proofs.Waiting.{rootCount, waiting-node, waiting-leads, nodeAt-all}
 use Rattle.level_order.proofs.FirstAt.{firstAt-suc, firstAt-past, firstAt-end}
 use Rattle.level_order.proofs.Positions.{within}
 use Rattle.level_order.proofs.InOrder.{forest-ordered}
-use Rattle.level_order.proofs.InQueue.{child-at}
-use Rattle.level_order.proofs.Queued.{queued-length, queued-rest, queued-node, appended-length, appended-rest, appended-before, appended-node, appended-parent}
-use Rattle.level_order.proofs.Settled.{settled-length, settled-rest, settled-position, settled-node, settled-parent, settled-first, settled-count, settled-ancestor, settled-gathered}
 use Rattle.level_order.proofs.Numbering.{Numbering, start-size, start-rest, number-start, number-turn}
 
 module _ (t : List ℕ) (accepted : tableNumber t ≡ 0) where

@@ -8,6 +8,7 @@ ghost use Rattle.tree.specs.Levels.{childrenOf};
 ghost use Rattle.tree.specs.WellFormed.{tableNumber};
 ghost use Rattle.level_order.specs.Appending.{queued, settled, Appended};
 ghost use Rattle.level_order.specs.Numbered.{NumberedFrom};
+
 pub mod field;
 
 use field::ANCESTOR;

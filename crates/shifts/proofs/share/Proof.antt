@@ -1,5 +1,5 @@
 -- `shifts::share` meets its contract. Assumes nothing.
-use mathlib.Core.Path.{_≡_, ap, ap₂, _∙_}
+use mathlib.Core.Path.{ap, ap₂, _∙_}
 use mathlib.Core.List.{List}
 use Prim.Native.Nat.{ℕ, _-_, _*_, _/_, _≤_}
 use native.Mathlib.Nat.{mul-div-le, div-le-self}
@@ -9,7 +9,6 @@ use lib.IntN.{ℤ, pos, _+ℤ_, _-ℤ_}
 use mir.Syntax.{w32}
 use mir.Val.{toZ, ofZ}
 use Rattle.level_order.specs.Fields.{get, put, SHIFT, CHANGE}
-
 use Rattle.level_order.proofs.Signed32.{Held, told, plus, minus, signed}
 use Rattle.rule.proofs.Signed.{natAbs-add, natAbs-sub}
 use Rattle.shifts.proofs.share.Statement.{statement}

@@ -1,9 +1,9 @@
 -- `families::join::begin` meets its contract. Assumes nothing.
-use mathlib.Core.Path.{_≡_, refl, ap, ap₂}
-use Prim.Native.Nat.{_+_, _-_, _<_}
+use mathlib.Core.Path.{_≡_, refl}
+use Prim.Native.Nat.{_+_, _-_}
 use native.Mathlib.Omega.{arith}
 use borrow.Author.Needs.{needs}
-use lib.IntN.{ℤ, pos, _+ℤ_}
+use lib.IntN.{ℤ, _+ℤ_}
 use mir.Syntax.{w32}
 use mir.Val.{toZ, ofZ}
 use Rattle.rule.proofs.Signed.{natAbs-add}
