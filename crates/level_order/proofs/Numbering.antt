@@ -16,7 +16,7 @@ use Rattle.level_order.proofs.FirstAt.{firstAt-suc, firstAt-past}
 use Rattle.level_order.proofs.Positions.{within}
 use Rattle.level_order.proofs.InOrder.{forest-ordered}
 use Rattle.level_order.proofs.InQueue.{child-at}
-use Rattle.level_order.proofs.Queued.{queued-length, queued-rest, queued-node, appended-length, appended-rest, appended-before, appended-node, appended-parent}
+use Rattle.level_order.proofs.Queued.{queued-length, queued-rest, queued-node, appended-length, appended-rest, appended-before, appended-at}
 use Rattle.level_order.proofs.Settled.{settled-length, settled-rest, settled-position, settled-node, settled-parent, settled-first, settled-count, settled-ancestor, settled-gathered}
 
 -- q's parent is at an earlier position, whose children stand around q
@@ -125,7 +125,7 @@ module _ (f : Forest) (before work : List ℤ) (p tail : ℕ) (N : Numbering f (
   node-new : (i : ℕ) → i < length row → get work₂ NODE (tail + i) ≡ pos (nodeAt f (tail + i))
   node-new i h =
       settled-node work₁ p tail (length row) (tail + i)
-      ∙ appended-node work p tail row room₁ i h
+      ∙ appended-at work p tail row room₁ i h .0
       ∙ ap pos (sym (ap (λ (k : ℕ). nodeAt f (k + i)) (N .place) ∙ child-at f p i 0 more h))
 
   parent-new : (i : ℕ) → i < length row → ParentAt f work₂ (tail + i)
@@ -134,7 +134,7 @@ module _ (f : Forest) (before work : List ℤ) (p tail : ℕ) (N : Numbering f (
     omega (arith, past),
     omega (arith, N .place),
     omega (arith, next, h),
-    settled-parent work₁ p tail (length row) (tail + i) ∙ appended-parent work p tail row room₁ i h,
+    settled-parent work₁ p tail (length row) (tail + i) ∙ appended-at work p tail row room₁ i h .1,
   )
 
   parent-old : (q : ℕ) → 0 < q → q < tail → ParentAt f work₂ q

@@ -53,28 +53,17 @@ appended-before work p tail [] other q h k = refl
 appended-before work p tail (c ∷ cs) other q h k =
     appended-before (queued work p tail c) p (tail + 1) cs other q h (omega arith) ∙ queued-position work p tail c other q h (λ e. omega arith)
 
-pub appended-node : (work : List ℤ) (p tail : ℕ) (cs : List ℕ) → 16 * (tail + length cs) ≤ length work → (i : ℕ) → i < length cs
-    → get (appended work p tail cs) NODE (tail + i) ≡ pos (getD cs i 0)
-appended-node work p tail [] room i h = absurd (not-suc-le-zero h)
-appended-node work p tail (c ∷ cs) room zero h =
-    let here : tail + 0 ≡ tail = omega arith in
-    ap (get (appended work p tail (c ∷ cs)) NODE) here
-    ∙ appended-before (queued work p tail c) p (tail + 1) cs NODE tail (omega arith) (omega arith)
-    ∙ queued-node work p tail c (omega arith)
-appended-node work p tail (c ∷ cs) room (suc i) h =
+-- each node of the row, and its parent
+pub appended-at : (work : List ℤ) (p tail : ℕ) (cs : List ℕ) → 16 * (tail + length cs) ≤ length work → (i : ℕ) → i < length cs
+    → (get (appended work p tail cs) NODE (tail + i) ≡ pos (getD cs i 0)) × (get (appended work p tail cs) PARENT (tail + i) ≡ pos p)
+appended-at work p tail [] room i h = absurd (not-suc-le-zero h)
+appended-at work p tail (c ∷ cs) room zero h = (first NODE (omega arith) ∙ queued-node work p tail c (omega arith), first PARENT (omega arith) ∙ queued-parent work p tail c (omega arith))
+  where
+    first : (g : ℕ) → g < 16 → get (appended work p tail (c ∷ cs)) g (tail + 0) ≡ get (queued work p tail c) g tail
+    first g l =
+        let here : tail + 0 ≡ tail = omega arith in
+        ap (get (appended work p tail (c ∷ cs)) g) here ∙ appended-before (queued work p tail c) p (tail + 1) cs g tail l (omega arith)
+appended-at work p tail (c ∷ cs) room (suc i) h =
     let next : tail + suc i ≡ (tail + 1) + i = omega arith in
-    ap (get (appended work p tail (c ∷ cs)) NODE) next
-    ∙ appended-node (queued work p tail c) p (tail + 1) cs (omega (arith, queued-length work p tail c)) i (omega arith)
-
-pub appended-parent : (work : List ℤ) (p tail : ℕ) (cs : List ℕ) → 16 * (tail + length cs) ≤ length work → (i : ℕ) → i < length cs
-    → get (appended work p tail cs) PARENT (tail + i) ≡ pos p
-appended-parent work p tail [] room i h = absurd (not-suc-le-zero h)
-appended-parent work p tail (c ∷ cs) room zero h =
-    let here : tail + 0 ≡ tail = omega arith in
-    ap (get (appended work p tail (c ∷ cs)) PARENT) here
-    ∙ appended-before (queued work p tail c) p (tail + 1) cs PARENT tail (omega arith) (omega arith)
-    ∙ queued-parent work p tail c (omega arith)
-appended-parent work p tail (c ∷ cs) room (suc i) h =
-    let next : tail + suc i ≡ (tail + 1) + i = omega arith in
-    ap (get (appended work p tail (c ∷ cs)) PARENT) next
-    ∙ appended-parent (queued work p tail c) p (tail + 1) cs (omega (arith, queued-length work p tail c)) i (omega arith)
+    let r = appended-at (queued work p tail c) p (tail + 1) cs (omega (arith, queued-length work p tail c)) i (omega arith) in
+    (ap (get (appended work p tail (c ∷ cs)) NODE) next ∙ r .0, ap (get (appended work p tail (c ∷ cs)) PARENT) next ∙ r .1)

@@ -39,8 +39,8 @@ module _ (t : List ℕ) (accepted : tableNumber t ≡ 0) where
         one (node v f g) e s = omega (arith, ap rootCount s)
 
     -- past the last position
-    pub table-end : (work : List ℤ) (p tail : ℕ) → Numbering tree (nodes t) start work p tail → nodes t ≤ p → NumberedFrom t before work
-    table-end work p tail N over =
+    pub table-end : {work : List ℤ} {p tail : ℕ} → Numbering tree (nodes t) start work p tail → nodes t ≤ p → NumberedFrom t before work
+    table-end {work} {p} {tail} N over =
         let A = accepted-numbers t accepted in
         record {
           numbered = record {
@@ -64,7 +64,7 @@ module _ (t : List ℕ) (accepted : tableNumber t ≡ 0) where
         all : nodes t ≤ tail
         all = omega (arith, N .place, firstAt-end tree p (omega (arith, all-nodes)))
 
-  module _ (start work : List ℤ) (p tail : ℕ) (N : Numbering tree (nodes t) start work p tail) (room : 16 * nodes t ≤ length start) (more : p < nodes t) where
+  module _ {start work : List ℤ} {p tail : ℕ} (N : Numbering tree (nodes t) start work p tail) (room : 16 * nodes t ≤ length start) (more : p < nodes t) where
     inside : p < size tree
     inside = omega (arith, all-nodes)
 
@@ -87,9 +87,9 @@ module _ (t : List ℕ) (accepted : tableNumber t ≡ 0) where
     pub table-room : tail + length (childrenOf t (nodeAt tree p)) ≤ nodes t
     table-room = omega (arith, N .place, ap length node-children, firstAt-suc tree p inside, within (firstAt tree) (size tree) (forest-ordered tree) (suc p) inside, all-nodes)
 
-    pub table-turn : (v end : ℕ) (work₁ work₂ : List ℤ) → v ≡ nodeAt tree p → Appended t p v tail work end work₁
+    pub table-turn : {v end : ℕ} {work₁ work₂ : List ℤ} → v ≡ nodeAt tree p → Appended t p v tail work end work₁
         → work₂ ≡ settled work₁ p tail (end - tail) → Numbering tree (nodes t) start work₂ (p + 1) end
-    table-turn v end work₁ work₂ e A s =
+    table-turn {v} {end} {work₁} {work₂} e A s =
         let row = roots (children (waiting p tree)) in
         let cs : childrenOf t v ≡ row = ap (childrenOf t) e ∙ node-children in
         let ends : end ≡ tail + length row = A .end ∙ ap (λ (l : List ℕ). tail + length l) cs in

@@ -100,7 +100,7 @@ module _ (c : tie.In-loop Inv-loop μ-loop) where
   ok = accepted (start after)
 
   inside : nodeAt (treeOf t) p < nodes t
-  inside = node-inside t ok (rooted after) work p tail numbering (rooted-room after) more
+  inside = node-inside t ok numbering (rooted-room after) more
 
 get-requires : tie.Need-get-requires Inv-loop μ-loop
 get-requires c κs = omega (arith, more (c .before), long (c .before))
@@ -111,8 +111,7 @@ module _ (c : tie.After-get Inv-loop μ-loop) where
   turn = c .before .before
 
   node-read : c .get .result ≡ pos (nodeAt (treeOf (t turn)) (p turn))
-  node-read =
-      c .get .ensures ∙ table-node (t turn) (ok turn) (rooted (after turn)) (work turn) (p turn) (tail turn) (numbering turn) (rooted-room (after turn)) (more turn)
+  node-read = c .get .ensures ∙ table-node (t turn) (ok turn) (numbering turn) (rooted-room (after turn)) (more turn)
 
   small : nodeAt (treeOf (t turn)) (p turn) < 2147483648
   small = omega (arith, inside turn, few turn)
@@ -128,7 +127,7 @@ module _ (c : tie.After-get Inv-loop μ-loop) where
       omega (
         arith,
         ap (λ (x : ℕ). length (childrenOf (t turn) x)) node-cast,
-        table-room (t turn) (ok turn) (rooted (after turn)) (work turn) (p turn) (tail turn) (numbering turn) (rooted-room (after turn)) (more turn),
+        table-room (t turn) (ok turn) (numbering turn) (rooted-room (after turn)) (more turn),
       )
 
 cast-v : tie.Need-cast-v Inv-loop μ-loop
@@ -201,8 +200,7 @@ loop-again c =
     let a = queued-at c in
     let g = read a in
     let q = turn g in
-    table-turn (t q) (ok q) (rooted (after q)) (work q) (p q) (tail q) (numbering q) (rooted-room (after q)) (more q) (v g) (end a) (filled a)
-    (c .before .settle .last .0) (node-cast g) (children-queued a) (c .before .settle .ensures)
+    table-turn (t q) (ok q) (numbering q) (rooted-room (after q)) (more q) (node-cast g) (children-queued a) (c .before .settle .ensures)
 
 same-length : tie.Need-same-length Inv-loop μ-loop
 same-length c =
@@ -212,9 +210,7 @@ same-length c =
 returns : tie.Need-returns Inv-loop μ-loop
 returns c =
     let s = c .before .before in
-    let q = c .before .loop in
-    table-end (table (start s)) (accepted (start s)) (before (start s)) (rooted s) (root-queued s) (room (start s)) (q .work) (q .p) (q .tail) (q .inv)
-    (c .loop-test .left)
+    table-end (table (start s)) (accepted (start s)) (before (start s)) (rooted s) (root-queued s) (room (start s)) (c .before .loop .inv) (c .loop-test .left)
 
 pub number-spec : {M : Type 1} → statement M
 number-spec =
