@@ -9,13 +9,17 @@ use mir.Syntax.{Width, w32, w64}
 use mir.Val.{Fits, SFits, toZ, ofZ}
 use mir.ValLaws.{toZ-ofZ, toZ-pos}
 
+-- z, as it is read from the bits that hold it
+abbrev pub stored : ℤ → ℤ
+stored z = toZ w32 (ofZ w32 z)
+
 -- z is r, fits, and is read back
 pub record Held (z r : ℤ) : Type 0 where
   pub fits : SFits w32 z
-  pub read : toZ w32 (ofZ w32 z) ≡ r
+  pub read : stored z ≡ r
 
 -- what is known to fit, as a call's result and a struct's field are
-pub told : {z r : ℤ} → mag z < 2147483648 → z ≡ r → toZ w32 (ofZ w32 z) ≡ r
+pub told : {z r : ℤ} → mag z < 2147483648 → z ≡ r → stored z ≡ r
 told {z} h e = toZ-ofZ w32 z (record { sfits = h }) ∙ e
 
 -- what is small
@@ -45,14 +49,14 @@ signed n h = toZ-pos w32 n h
 
 -- cast back
 module _ (z : ℤ) (n : ℕ) (e : z ≡ pos n) (h : n < 2147483648) where
-  pub natural : toZ w32 (ofZ w32 z) ≡ pos n
+  pub natural : stored z ≡ pos n
   natural = held e h .read
 
-  pub unsigned : natAbs (toZ w32 (ofZ w32 z)) ≡ n
+  pub unsigned : natAbs (stored z) ≡ n
   unsigned = ap natAbs natural
 
-  pub castable : (w : Width) → Fits w n → T (nonNeg (toZ w32 (ofZ w32 z))) × Fits w (natAbs (toZ w32 (ofZ w32 z)))
+  pub castable : (w : Width) → Fits w n → T (nonNeg (stored z)) × Fits w (natAbs (stored z))
   castable w f = subst (λ (x : ℤ). T (nonNeg x) × Fits w (natAbs x)) (sym natural) (tt, f)
 
-  pub unsigned-fits : T (nonNeg (toZ w32 (ofZ w32 z))) × Fits w64 (natAbs (toZ w32 (ofZ w32 z)))
+  pub unsigned-fits : T (nonNeg (stored z)) × Fits w64 (natAbs (stored z))
   unsigned-fits = castable w64 (record { fits = omega arith })

@@ -14,7 +14,9 @@ get work field p = getD work (cell p field) (pos 0)
 abbrev pub put : List ℤ → ℕ → ℕ → ℤ → List ℤ
 put work field p z = set work (cell p field) z
 
--- The fields, in the order of the stages that write them. The numbering: the node's number, the position of its first child, how many children it has, the position of its parent
+-- The fields stand in the order of the stages that write them, so that what a stage leaves as it was is a range.
+
+-- the numbering: the node's number, the position of its first child, how many children it has, the position of its parent
 abbrev pub NODE : ℕ
 NODE = 0
 
@@ -27,7 +29,7 @@ COUNT = 2
 abbrev pub PARENT : ℕ
 PARENT = 3
 
--- first the place in its row, then the offset from the parent, then the place
+-- the families: first the place in its row, then the offset from the parent; the second walk: the place
 abbrev pub PLACE : ℕ
 PLACE = 4
 
@@ -49,5 +51,6 @@ SHIFT = 8
 abbrev pub CHANGE : ℕ
 CHANGE = 9
 
+-- the second walk
 abbrev pub LEVEL : ℕ
 LEVEL = 10

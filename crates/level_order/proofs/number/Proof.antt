@@ -5,8 +5,6 @@ use Prim.Native.Nat.{ℕ, _+_, _-_, _*_, _≤_, _<_}
 use native.Mathlib.Omega.{arith}
 use lib.IntN.{ℤ, pos, natAbs}
 use lib.ListN.{length}
-use mir.Syntax.{w32}
-use mir.Val.{toZ, ofZ}
 use Rattle.tree.specs.Table.{nodes}
 use Rattle.tree.specs.Forest.{treeOf}
 use Rattle.tree.specs.Levels.{childrenOf}
@@ -15,7 +13,7 @@ use Rattle.tree.proofs.Linked.{Linked}
 use Rattle.tree.proofs.Followed.{accepted-linked}
 use Rattle.level_order.specs.LevelOrder.{nodeAt}
 use Rattle.level_order.specs.Appending.{queued, Appended}
-use Rattle.level_order.proofs.Signed32.{unsigned, unsigned-fits}
+use Rattle.level_order.proofs.Signed32.{stored, unsigned, unsigned-fits}
 use Rattle.level_order.proofs.Queued.{queued-length, appended-length}
 use Rattle.level_order.proofs.Numbering.{Numbering}
 use Rattle.level_order.proofs.TableNumbering.{table-start, table-end, table-node, node-inside, table-room, table-turn}
@@ -117,7 +115,7 @@ module _ (c : tie.After-get Inv-loop μ-loop) where
   small = omega (arith, inside turn, few turn)
 
   abbrev v : ℕ
-  v = natAbs (toZ w32 (ofZ w32 (c .get .result)))
+  v = natAbs (stored (c .get .result))
 
   node-cast : v ≡ nodeAt (treeOf (t turn)) (p turn)
   node-cast = unsigned (c .get .result) (nodeAt (treeOf (t turn)) (p turn)) node-read small

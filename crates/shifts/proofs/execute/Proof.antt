@@ -8,10 +8,10 @@ use lib.IntN.{ℤ, pos, _+ℤ_, _-ℤ_}
 use lib.ListN.{length}
 use lib.Signed.{quotZ}
 use mir.Syntax.{w32}
-use mir.Val.{toZ, ofZ}
+use mir.Val.{toZ}
 use Rattle.rule.proofs.Signed.{natAbs-add, natAbs-sub}
 use Rattle.level_order.specs.Fields.{get, put, PLACE, SHIFT, CHANGE}
-use Rattle.level_order.proofs.Signed32.{Held, told, held, plus, minus}
+use Rattle.level_order.proofs.Signed32.{stored, Held, told, held, plus, minus}
 use Rattle.shifts.specs.Shifts.{half, Executed}
 use Rattle.shifts.proofs.Executing.{Pass, Executing, execute-start, half-read, half-small}
 use Rattle.shifts.proofs.Executing as pass
@@ -46,7 +46,7 @@ module _ (g : tie.After-get Inv-loop μ-loop) where
   abbrev start : tie.Start Inv-loop μ-loop
   start = g .before .before
 
-  middle-held : Held (quotZ (toZ w32 (ofZ w32 (g .get .result))) (pos 2)) (pos (half (before start) (end start)))
+  middle-held : Held (quotZ (stored (g .get .result)) (pos 2)) (pos (half (before start) (end start)))
   middle-held =
       held (ap (λ (z : ℤ). quotZ z (pos 2)) (told (g .get .ok) (g .get .ensures)) ∙ half-read (before start) (end start) (start .pre .1 .1 .0))
       (omega (arith, half-small (given start)))
@@ -93,13 +93,13 @@ module _ (c : tie.After-get2 Inv-loop μ-loop) where
   abbrev old : ℤ
   old = get (work t₁) PLACE (q t₁)
 
-  shifted : Held (toZ w32 (ofZ w32 (c .get2 .result)) +ℤ sum t₁) (old +ℤ sum t₁)
+  shifted : Held (stored (c .get2 .result) +ℤ sum t₁) (old +ℤ sum t₁)
   shifted = plus (told (c .get2 .ok) (c .get2 .ensures)) refl (omega (arith, natAbs-add old (sum t₁), pass.place-small (turn t₁), pass.sum-small (turn t₁)))
 
   abbrev half′ : ℕ
   half′ = half (before (s t₁)) (end (s t₁))
 
-  centred : Held (toZ w32 (ofZ w32 (toZ w32 (ofZ w32 (c .get2 .result)) +ℤ sum t₁)) -ℤ toZ w32 (ofZ w32 (quotZ (toZ w32 (ofZ w32 (t₁ .before .before .get .result))) (pos 2))))
+  centred : Held (stored (stored (c .get2 .result) +ℤ sum t₁) -ℤ stored (quotZ (stored (t₁ .before .before .get .result)) (pos 2)))
       ((old +ℤ sum t₁) -ℤ pos half′)
   centred =
       minus (shifted .read) (middle-held (t₁ .before .before) .read)
@@ -143,10 +143,10 @@ module _ (c : tie.After-get3 Inv-loop μ-loop) where
   abbrev t₃ : tie.In-loop Inv-loop μ-loop
   t₃ = t₂ put₃
 
-  change : toZ w32 (ofZ w32 (c .get3 .result)) ≡ get (before (s t₃)) CHANGE (q t₃)
+  change : stored (c .get3 .result) ≡ get (before (s t₃)) CHANGE (q t₃)
   change = told (c .get3 .ok) (c .get3 .ensures ∙ ap (λ (l : List ℤ). get l CHANGE (q t₃)) (written put₃) ∙ pass.same-change (turn t₃))
 
-  new-rate : Held (rate t₃ +ℤ toZ w32 (ofZ w32 (c .get3 .result))) (rate t₃ +ℤ get (before (s t₃)) CHANGE (q t₃))
+  new-rate : Held (rate t₃ +ℤ stored (c .get3 .result)) (rate t₃ +ℤ get (before (s t₃)) CHANGE (q t₃))
   new-rate = plus {u = rate t₃} refl change (omega (arith, pass.rate-next (turn t₃)))
 
 add-rate : tie.Need-add-rate Inv-loop μ-loop
@@ -163,13 +163,13 @@ module _ (c : tie.After-get4 Inv-loop μ-loop) where
   abbrev t₄ : tie.In-loop Inv-loop μ-loop
   t₄ = t₃ changed
 
-  shift : toZ w32 (ofZ w32 (c .get4 .result)) ≡ get (before (s t₄)) SHIFT (q t₄)
+  shift : stored (c .get4 .result) ≡ get (before (s t₄)) SHIFT (q t₄)
   shift = told (c .get4 .ok) (c .get4 .ensures ∙ ap (λ (l : List ℤ). get l SHIFT (q t₄)) (written (put₃ changed)) ∙ pass.same-shift (turn t₄))
 
-  moved : Held (sum t₄ +ℤ toZ w32 (ofZ w32 (c .get4 .result))) (sum t₄ +ℤ get (before (s t₄)) SHIFT (q t₄))
+  moved : Held (sum t₄ +ℤ stored (c .get4 .result)) (sum t₄ +ℤ get (before (s t₄)) SHIFT (q t₄))
   moved = plus {u = sum t₄} refl shift (omega (arith, pass.sum-next (turn t₄)))
 
-  new-sum : Held (toZ w32 (ofZ w32 (sum t₄ +ℤ toZ w32 (ofZ w32 (c .get4 .result)))) +ℤ toZ w32 (ofZ w32 (rate t₄ +ℤ toZ w32 (ofZ w32 (changed .get3 .result)))))
+  new-sum : Held (stored (sum t₄ +ℤ stored (c .get4 .result)) +ℤ stored (rate t₄ +ℤ stored (changed .get3 .result)))
       ((sum t₄ +ℤ get (before (s t₄)) SHIFT (q t₄)) +ℤ (rate t₄ +ℤ get (before (s t₄)) CHANGE (q t₄)))
   new-sum =
       plus (moved .read) (new-rate changed .read)

@@ -7,9 +7,9 @@ use native.Mathlib.Omega.{arith}
 use borrow.Author.Needs.{needs}
 use lib.IntN.{ℤ, pos, _+ℤ_, _-ℤ_}
 use mir.Syntax.{w32}
-use mir.Val.{toZ, ofZ}
+use mir.Val.{toZ}
 use Rattle.level_order.specs.Fields.{get, put, SHIFT, CHANGE}
-use Rattle.level_order.proofs.Signed32.{Held, told, plus, minus, signed}
+use Rattle.level_order.proofs.Signed32.{stored, Held, told, plus, minus, signed}
 use Rattle.rule.proofs.Signed.{natAbs-add, natAbs-sub}
 use Rattle.shifts.proofs.share.Statement.{statement}
 use Rattle.shifts.proofs.share.Tie as tie
@@ -59,17 +59,17 @@ module _ (g : tie.After-get3) where
   quotient-small = omega (arith, div-le-self (start .args .s) (c - i), start .pre .0 .2)
 
   -- the three that are written
-  new-shift : Held (toZ w32 (ofZ w32 (g .before .before .before .before .get .result)) +ℤ toZ w32 whole) (get work SHIFT c +ℤ pos whole)
+  new-shift : Held (stored (g .before .before .before .before .get .result) +ℤ toZ w32 whole) (get work SHIFT c +ℤ pos whole)
   new-shift =
       plus (told (g .before .before .before .before .get .ok) (g .before .before .before .before .get .ensures)) (signed whole (omega (arith, whole-small)))
       (omega (arith, natAbs-add (get work SHIFT c) (pos whole), whole-small, start .pre .1 .1 .0))
 
-  new-right : Held (toZ w32 (ofZ w32 (g .before .before .get2 .result)) -ℤ toZ w32 quotient) (get work CHANGE c -ℤ pos quotient)
+  new-right : Held (stored (g .before .before .get2 .result) -ℤ toZ w32 quotient) (get work CHANGE c -ℤ pos quotient)
   new-right =
       minus (told (g .before .before .get2 .ok) (g .before .before .get2 .ensures)) (signed quotient (omega (arith, quotient-small)))
       (omega (arith, natAbs-sub (get work CHANGE c) (pos quotient), quotient-small, start .pre .1 .1 .1 .0))
 
-  new-left : Held (toZ w32 (ofZ w32 (g .get3 .result)) +ℤ toZ w32 quotient) (get work CHANGE i +ℤ pos quotient)
+  new-left : Held (stored (g .get3 .result) +ℤ toZ w32 quotient) (get work CHANGE i +ℤ pos quotient)
   new-left =
       plus (told (g .get3 .ok) (g .get3 .ensures)) (signed quotient (omega (arith, quotient-small)))
       (omega (arith, natAbs-add (get work CHANGE i) (pos quotient), quotient-small, start .pre .1 .1 .1 .1))

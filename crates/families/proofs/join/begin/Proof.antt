@@ -4,11 +4,9 @@ use Prim.Native.Nat.{_+_, _-_}
 use native.Mathlib.Omega.{arith}
 use borrow.Author.Needs.{needs}
 use lib.IntN.{ℤ, _+ℤ_}
-use mir.Syntax.{w32}
-use mir.Val.{toZ, ofZ}
 use Rattle.rule.proofs.Signed.{natAbs-add}
 use Rattle.level_order.specs.Fields.{get, PLACE}
-use Rattle.level_order.proofs.Signed32.{Held, told, held, plus}
+use Rattle.level_order.proofs.Signed32.{stored, Held, told, held, plus}
 use Rattle.families.proofs.join.begin.Statement.{statement}
 use Rattle.families.proofs.join.begin.Tie as tie
 
@@ -26,10 +24,10 @@ module _ (c : tie.After-get) where
   abbrev last : ℤ
   last = get (c .before .args .work .now) PLACE (c .before .args .c - 1)
 
-  last-read : toZ w32 (ofZ w32 (c .get .result)) ≡ last
+  last-read : stored (c .get .result) ≡ last
   last-read = told (c .get .ok) (c .get .ensures)
 
-  start-held : Held (toZ w32 (ofZ w32 (c .get .result)) +ℤ toZ w32 (ofZ w32 separation)) (last +ℤ separation)
+  start-held : Held (stored (c .get .result) +ℤ stored separation) (last +ℤ separation)
   start-held =
       plus last-read (held {z = separation} refl (omega (arith, c .before .pre .1 .1)) .read)
       (omega (arith, natAbs-add last separation, c .before .pre .1))

@@ -4,9 +4,7 @@ use Prim.Native.Nat.{_+_, _-_}
 use native.Mathlib.Omega.{arith}
 use borrow.Author.Needs.{needs}
 use lib.IntN.{_+ℤ_}
-use mir.Syntax.{w32}
-use mir.Val.{toZ, ofZ}
-use Rattle.level_order.proofs.Signed32.{Held, told, plus}
+use Rattle.level_order.proofs.Signed32.{stored, Held, told, plus}
 use Rattle.families.specs.declared.join.Stand.{Stand}
 use Rattle.families.specs.Descent.{lower}
 use Rattle.families.proofs.join.descend.Statement.{statement}
@@ -39,7 +37,7 @@ module _ (c : tie.After-struct-told) where
   abbrev s₁ : tie.Start
   s₁ = c .before .before .before .before .before .before
 
-  right-held : Held (toZ w32 (ofZ w32 (s₁ .args .s .right)) +ℤ toZ w32 (ofZ w32 (c .before .before .get .result))) (below s₁ .right)
+  right-held : Held (stored (s₁ .args .s .right) +ℤ stored (c .before .before .get .result)) (below s₁ .right)
   right-held =
       plus (told {z = s₁ .args .s .right} (c .struct-told .given .1 .1 .1 .0 .1) refl) (told (c .before .before .get .ok) (c .before .before .get .ensures))
       (omega (arith, s₁ .pre .0 .1 .right))
@@ -55,7 +53,7 @@ module _ (c : tie.After-struct-told2) where
   abbrev s₂ : tie.Start
   s₂ = s₁ (c .before .before .before)
 
-  left-held : Held (toZ w32 (ofZ w32 (s₂ .args .s .left)) +ℤ toZ w32 (ofZ w32 (c .before .before .get2 .result))) (below s₂ .left)
+  left-held : Held (stored (s₂ .args .s .left) +ℤ stored (c .before .before .get2 .result)) (below s₂ .left)
   left-held =
       plus (told {z = s₂ .args .s .left} (c .struct-told2 .given .1 .1 .1 .1 .0 .1) refl) (told (c .before .before .get2 .ok) (c .before .before .get2 .ensures))
       (omega (arith, s₂ .pre .0 .1 .left))
@@ -71,7 +69,7 @@ module _ (c : tie.After-struct-told3) where
   abbrev s₃ : tie.Start
   s₃ = s₂ (c .before .before .before)
 
-  outer-left-held : Held (toZ w32 (ofZ w32 (s₃ .args .s .«outer_left»)) +ℤ toZ w32 (ofZ w32 (c .before .before .get3 .result))) (below s₃ .«outer_left»)
+  outer-left-held : Held (stored (s₃ .args .s .«outer_left») +ℤ stored (c .before .before .get3 .result)) (below s₃ .«outer_left»)
   outer-left-held =
       plus (told {z = s₃ .args .s .«outer_left»} (c .struct-told3 .given .1 .1 .1 .1 .1 .0 .1) refl) (told (c .before .before .get3 .ok) (c .before .before .get3 .ensures))
       (omega (arith, s₃ .pre .0 .1 .outer-left))
@@ -90,7 +88,7 @@ module _ (c : tie.After-struct-told4) where
   abbrev s₄ : tie.Start
   s₄ = s₃ (c .before .before .before)
 
-  outer-right-held : Held (toZ w32 (ofZ w32 (s₄ .args .s .«outer_right»)) +ℤ toZ w32 (ofZ w32 (c .before .before .get4 .result))) (below s₄ .«outer_right»)
+  outer-right-held : Held (stored (s₄ .args .s .«outer_right») +ℤ stored (c .before .before .get4 .result)) (below s₄ .«outer_right»)
   outer-right-held =
       plus (told {z = s₄ .args .s .«outer_right»} (c .struct-told4 .given .1 .1 .1 .1 .1 .1 .0 .1) refl) (told (c .before .before .get4 .ok) (c .before .before .get4 .ensures))
       (omega (arith, s₄ .pre .0 .1 .outer-right))

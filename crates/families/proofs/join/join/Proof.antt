@@ -7,11 +7,11 @@ use native.Mathlib.Omega.{arith}
 use lib.IntN.{ℤ, pos, natAbs, _+ℤ_}
 use lib.ListN.{length}
 use mir.Syntax.{w32}
-use mir.Val.{toZ, ofZ}
+use mir.Val.{toZ}
 use Rattle.tree.specs.Table.{nodes}
 use Rattle.tree.proofs.Followed.{accepted-linked}
 use Rattle.level_order.specs.Fields.{put, PLACE}
-use Rattle.level_order.proofs.Signed32.{Held, held, plus, signed, natural}
+use Rattle.level_order.proofs.Signed32.{stored, Held, held, plus, signed, natural}
 use Rattle.level_order.proofs.InOrder.{ordered}
 use Rattle.families.specs.declared.join.Stand.{Stand}
 use Rattle.families.specs.Descent.{Level, Threads, Steps, topLevel, lower, isEnd, threaded, newDefault}
@@ -73,7 +73,7 @@ module _ (c : tie.After-begin Inv-contours μ-contours) where
   begun : c .begin .result ≡ topLevel (K first .before) (K first .f) (K first .c) (pos (K first .D))
   begun = c .begin .ensures ∙ ap (topLevel (K first .before) (K first .f) (K first .c)) (separation-read first)
 
-  start-read : toZ w32 (ofZ w32 (c .begin .result .left)) ≡ pos (startAt (K first))
+  start-read : stored (c .begin .result .left) ≡ pos (startAt (K first))
   start-read = natural (c .begin .result .left) (startAt (K first)) (ap (λ (r : Stand). r .left) begun ∙ start-here (K first)) (omega (arith, moved-most (contour-first (K first))))
 
 contours-holds : tie.Need-contours-holds Inv-contours μ-contours
@@ -108,13 +108,13 @@ module _ (m : tie.After-meet Inv-contours μ-contours) where
   met : after ≡ next D
   met = m .meet .ensures .1
 
-  moved-held : Held (toZ w32 (ofZ w32 (stand (m .before) .moved)) +ℤ toZ w32 (ofZ w32 (m .meet .result))) (pos (moved D))
+  moved-held : Held (stored (stand (m .before) .moved) +ℤ stored (m .meet .result)) (pos (moved D))
   moved-held =
       plus (natural (stand (m .before) .moved) (D .k) (D .moved) (omega (arith, moved-bound D)))
       (natural (m .meet .result) (close D) (m .meet .ensures .0) (omega (arith, moved-bound D))) (omega (arith, moved-bound D))
 
   abbrev sum : ℤ
-  sum = toZ w32 (ofZ w32 (toZ w32 (ofZ w32 (stand (m .before) .moved)) +ℤ toZ w32 (ofZ w32 (m .meet .result))))
+  sum = stored (stored (stand (m .before) .moved) +ℤ stored (m .meet .result))
 
   abbrev s′ : Stand
   s′ = pushed (stand (m .before)) sum
@@ -195,12 +195,12 @@ module _ (h : tie.After-thread Inv-contours μ-contours) where
   default-now : h .thread .result ≡ newDefault (next (D m)) (s′ m) (K′ .c) (K′ .default)
   default-now = h .thread .ensures .0 ∙ ap (λ (w : List ℤ). newDefault w (s′ m) (K′ .c) (K′ .default)) (met m)
 
-  place-held : Held (toZ w32 (ofZ w32 (begin .begin .result .left)) +ℤ toZ w32 (ofZ w32 (sum m))) (pos (startAt K′ + moved (D m)))
+  place-held : Held (stored (begin .begin .result .left) +ℤ stored (sum m)) (pos (startAt K′ + moved (D m)))
   place-held =
       plus (start-read begin) (natural (sum m) (moved (D m)) (moved-held m .read) (omega (arith, moved-bound (D m)))) (omega (arith, moved-bound (D m)))
 
   abbrev place : ℤ
-  place = toZ w32 (ofZ w32 (toZ w32 (ofZ w32 (begin .begin .result .left)) +ℤ toZ w32 (ofZ w32 (sum m))))
+  place = stored (stored (begin .begin .result .left) +ℤ stored (sum m))
 
   ended : Ends K′ (next (D m)) (threaded (next (D m)) (s′ m)) (moved (D m)) (newDefault (next (D m)) (s′ m) (K′ .c) (K′ .default))
   ended = ends (D m) (sum m) (moved-held m .read) (stop (h .before))

@@ -10,14 +10,14 @@ use lib.Dec.{T}
 use lib.IntN.{ℤ, pos, negsuc, natAbs, _+ℤ_, _-ℤ_}
 use lib.Signed.{leZ}
 use mir.Syntax.{w32}
-use mir.Val.{toZ, ofZ}
+use mir.Val.{toZ}
 use Rattle.rule.specs.Join.{above0}
 use Rattle.rule.proofs.Signed.{natAbs-add, natAbs-sub}
 use Rattle.level_order.specs.Fields.{get, put, ANCESTOR}
-use Rattle.level_order.proofs.Signed32.{Held, held, plus, minus, signed, unsigned, unsigned-fits}
+use Rattle.level_order.proofs.Signed32.{stored, Held, held, plus, minus, signed, unsigned, unsigned-fits}
 use Rattle.families.specs.declared.join.Stand.{Stand}
 use Rattle.shifts.specs.Shifts.{shared}
-use Rattle.families.specs.Descent.{Level, tooClose}
+use Rattle.families.specs.Descent.{Level, tooClose, ownerOf}
 use Rattle.families.proofs.OwnerOf.{owner-range}
 use Rattle.families.proofs.join.meet.Statement.{statement}
 use Rattle.families.proofs.join.meet.Tie as tie
@@ -49,18 +49,18 @@ module _ (s : tie.Start) where
   level = s .pre .0
 
   -- where the child's node has to be, where it is, and by how much it is too close
-  least : Held (toZ w32 (ofZ w32 (stand .right)) +ℤ toZ w32 separation) (stand .right +ℤ pos separation)
+  least : Held (stored (stand .right) +ℤ toZ w32 separation) (stand .right +ℤ pos separation)
   least =
       plus (held {z = stand .right} refl (omega (arith, level .right-modest)) .read) (signed separation (omega (arith, s .pre .1 .0)))
       (omega (arith, natAbs-add (stand .right) (pos separation), level .right-modest, s .pre .1 .0))
 
-  place : Held (toZ w32 (ofZ w32 (stand .left)) +ℤ toZ w32 (ofZ w32 (stand .moved))) (stand .left +ℤ stand .moved)
+  place : Held (stored (stand .left) +ℤ stored (stand .moved)) (stand .left +ℤ stand .moved)
   place =
       plus (held {z = stand .left} refl (omega (arith, level .left-modest)) .read) (held {z = stand .moved} refl (omega (arith, level .moved-modest)) .read)
       (omega (arith, natAbs-add (stand .left) (stand .moved), level .left-modest, level .moved-modest))
 
   abbrev difference : ℤ
-  difference = toZ w32 (ofZ w32 (toZ w32 (ofZ w32 (stand .right)) +ℤ toZ w32 separation)) -ℤ toZ w32 (ofZ w32 (toZ w32 (ofZ w32 (stand .left)) +ℤ toZ w32 (ofZ w32 (stand .moved))))
+  difference = stored (stored (stand .right) +ℤ toZ w32 separation) -ℤ stored (stored (stand .left) +ℤ stored (stand .moved))
 
   abbrev gap : ℤ
   gap = (stand .right +ℤ pos separation) -ℤ (stand .left +ℤ stand .moved)
@@ -138,7 +138,7 @@ module _ (c : tie.Else1) where
   difference-is : difference s₁ ≡ pos (amount s₁)
   difference-is = ap₂ _-ℤ_ (least s₁ .read) (place s₁ .read) ∙ above .0
 
-  amount-read : natAbs (toZ w32 (ofZ w32 (difference s₁))) ≡ amount s₁
+  amount-read : natAbs (stored (difference s₁)) ≡ amount s₁
   amount-read = unsigned (difference s₁) (amount s₁) difference-is (omega (arith, s₁ .pre .1 .1))
 
 sub-owner : tie.Need-sub-owner
@@ -184,12 +184,13 @@ returns-2 c =
     let o = h .before .before in
     let q = o .before .before in
     let s = s₁ q in
+    let owner : o .owner .result ≡ ownerOf (get (work s) ANCESTOR (stand s .b - 1)) (s .args .f) (child s) (s .args .default) = o .owner .ensures in
     let some = ne-eqb (amount s) 0 (λ z. omega (arith, z, above q .1)) in (
       close s .read ∙ above q .0,
       rw some
           (c .before .put2 .ensures
           ∙ ap₂ (λ (w : List ℤ) (z : ℤ). put w ANCESTOR (stand s .e - 1) z)
-          (h .share .ensures ∙ ap₂ (λ (i n : ℕ). shared (work s) i (child s) n) (o .owner .ensures) (amount-read q))
+          (h .share .ensures ∙ ap₂ (λ (i n : ℕ). shared (work s) i (child s) n) owner (amount-read q))
           (child-read s)),
     )
 

@@ -5,18 +5,16 @@ use Prim.Native.Nat.{ℕ, _+_, _-_, _≤_, _<_}
 use native.Mathlib.Omega.{arith}
 use borrow.Author.Needs.{needs}
 use borrow.Author.Tests.{lt-ltb, le-ltb}
-use lib.IntN.{ℤ, _+ℤ_, _-ℤ_}
-use mir.Syntax.{w32}
-use mir.Val.{toZ, ofZ}
+use lib.IntN.{ℤ, natAbs, _+ℤ_, _-ℤ_}
 use Rattle.rule.proofs.Signed.{natAbs-add, natAbs-sub}
 use Rattle.level_order.specs.Fields.{put, LEFT, RIGHT}
-use Rattle.level_order.proofs.Signed32.{Held, told, held, plus, minus}
+use Rattle.level_order.proofs.Signed32.{stored, Held, told, held, plus, minus}
 use Rattle.families.specs.declared.join.Stand.{Stand}
 use Rattle.families.specs.Descent.{Modest, Level, lower, firstOfChildren, pastChildren}
 use Rattle.families.proofs.join.thread.Statement.{statement}
 use Rattle.families.proofs.join.thread.Tie as tie
 
-modest-read : (z : ℤ) → Modest z → toZ w32 (ofZ w32 z) ≡ z
+modest-read : (z : ℤ) → Modest z → stored z ≡ z
 modest-read z h = held {z = z} refl (omega arith) .read
 
 -- at the function's start
@@ -40,13 +38,15 @@ module _ (s : tie.Start) where
   abbrev next-e : ℕ
   next-e = pastChildren work (stand .e - 1)
 
-  moved-read : toZ w32 (ofZ w32 (stand .moved)) ≡ stand .moved
+  moved-read : stored (stand .moved) ≡ stand .moved
   moved-read = modest-read (stand .moved) (level .moved-modest)
 
-  last-held : Held (toZ w32 (ofZ w32 (stand .«outer_right»)) +ℤ toZ w32 (ofZ w32 (stand .moved))) (stand .«outer_right» +ℤ stand .moved)
-  last-held =
-      plus (modest-read (stand .«outer_right») (level .outer-right-modest)) moved-read
-      (omega (arith, natAbs-add (stand .«outer_right») (stand .moved), level .outer-right-modest, level .moved-modest))
+  -- the child's last node, as it has been moved
+  last-small : natAbs (stand .«outer_right» +ℤ stand .moved) ≤ 8388608
+  last-small = omega (arith, natAbs-add (stand .«outer_right») (stand .moved), level .outer-right-modest, level .moved-modest)
+
+  last-held : Held (stored (stand .«outer_right») +ℤ stored (stand .moved)) (stand .«outer_right» +ℤ stand .moved)
+  last-held = plus (modest-read (stand .«outer_right») (level .outer-right-modest)) moved-read (omega (arith, last-small))
 
 position-requires : tie.Need-position-requires
 position-requires c κs = c .before .pre .0 .looked .first-b
@@ -83,25 +83,25 @@ module _ (c : tie.After-struct-told) where
   abbrev row-start : tie.Start
   row-start = start (row .before)
 
-  -- the row's next node, and the step to it from the child's last
-  right-held : Held (toZ w32 (ofZ w32 (stand row-start .right)) +ℤ toZ w32 (ofZ w32 (c .before .before .get .result))) (lower (work row-start) (stand row-start) .right)
-  right-held =
-      plus (modest-read (stand row-start .right) (level row-start .right-modest)) (told (c .before .before .get .ok) (c .before .before .get .ensures))
-      (omega (arith, row-start .pre .1 .row-deeper (row-deeper row)))
+  abbrev st₁ : Stand
+  st₁ = stand row-start
 
-  right-step : Held (toZ w32 (ofZ w32 (toZ w32 (ofZ w32 (stand row-start .right)) +ℤ toZ w32 (ofZ w32 (c .before .before .get .result))))
-      -ℤ toZ w32 (ofZ w32 (toZ w32 (ofZ w32 (stand row-start .«outer_right»)) +ℤ toZ w32 (ofZ w32 (stand row-start .moved)))))
-      (lower (work row-start) (stand row-start) .right -ℤ (stand row-start .«outer_right» +ℤ stand row-start .moved))
+  -- the level below
+  abbrev down₁ : Stand
+  down₁ = lower (work row-start) st₁
+
+  -- the row's next node, and the step to it from the child's last
+  right-small : Modest (down₁ .right)
+  right-small = row-start .pre .1 .row-deeper (row-deeper row)
+
+  right-held : Held (stored (st₁ .right) +ℤ stored (c .before .before .get .result)) (down₁ .right)
+  right-held = plus (modest-read (st₁ .right) (level row-start .right-modest)) (told (c .before .before .get .ok) (c .before .before .get .ensures)) (omega (arith, right-small))
+
+  right-step : Held (stored (stored (st₁ .right) +ℤ stored (c .before .before .get .result)) -ℤ stored (stored (st₁ .«outer_right») +ℤ stored (st₁ .moved)))
+      (down₁ .right -ℤ (st₁ .«outer_right» +ℤ st₁ .moved))
   right-step =
       minus (right-held .read) (last-held row-start .read)
-      (omega (
-        arith,
-        natAbs-sub (lower (work row-start) (stand row-start) .right) (stand row-start .«outer_right» +ℤ stand row-start .moved),
-        natAbs-add (stand row-start .«outer_right») (stand row-start .moved),
-        row-start .pre .1 .row-deeper (row-deeper row),
-        level row-start .outer-right-modest,
-        level row-start .moved-modest,
-      ))
+      (omega (arith, natAbs-sub (down₁ .right) (st₁ .«outer_right» +ℤ st₁ .moved), right-small, last-small row-start))
 
 add-step : tie.Need-add-step
 add-step c = right-held c .fits
@@ -164,34 +164,30 @@ module _ (c : tie.After-struct-told3) where
   abbrev child-start : tie.Start
   child-start = past-start (child .before)
 
-  left-small : Modest (lower (work child-start) (stand child-start) .left)
+  abbrev st₂ : Stand
+  st₂ = stand child-start
+
+  abbrev down₂ : Stand
+  down₂ = lower (work child-start) st₂
+
+  left-small : Modest (down₂ .left)
   left-small = child-start .pre .1 .child-deeper (child-deeper child)
 
   -- the child's next node, as it has been moved, and the step to it from the row's first
-  left-held : Held (toZ w32 (ofZ w32 (stand child-start .left)) +ℤ toZ w32 (ofZ w32 (c .before .before .get2 .result))) (lower (work child-start) (stand child-start) .left)
-  left-held =
-      plus (modest-read (stand child-start .left) (level child-start .left-modest)) (told (c .before .before .get2 .ok) (c .before .before .get2 .ensures))
-      (omega (arith, left-small))
+  left-held : Held (stored (st₂ .left) +ℤ stored (c .before .before .get2 .result)) (down₂ .left)
+  left-held = plus (modest-read (st₂ .left) (level child-start .left-modest)) (told (c .before .before .get2 .ok) (c .before .before .get2 .ensures)) (omega (arith, left-small))
 
-  moved-held : Held (toZ w32 (ofZ w32 (toZ w32 (ofZ w32 (stand child-start .left)) +ℤ toZ w32 (ofZ w32 (c .before .before .get2 .result)))) +ℤ toZ w32 (ofZ w32 (stand child-start .moved)))
-      (lower (work child-start) (stand child-start) .left +ℤ stand child-start .moved)
-  moved-held =
-      plus (left-held .read) (moved-read child-start)
-      (omega (arith, natAbs-add (lower (work child-start) (stand child-start) .left) (stand child-start .moved), left-small, level child-start .moved-modest))
+  moved-small : natAbs (down₂ .left +ℤ st₂ .moved) ≤ 8388608
+  moved-small = omega (arith, natAbs-add (down₂ .left) (st₂ .moved), left-small, level child-start .moved-modest)
 
-  left-step : Held (toZ w32 (ofZ w32 (toZ w32 (ofZ w32 (toZ w32 (ofZ w32 (stand child-start .left)) +ℤ toZ w32 (ofZ w32 (c .before .before .get2 .result)))) +ℤ toZ w32 (ofZ w32 (stand child-start .moved))))
-      -ℤ toZ w32 (ofZ w32 (stand child-start .«outer_left»)))
-      ((lower (work child-start) (stand child-start) .left +ℤ stand child-start .moved) -ℤ stand child-start .«outer_left»)
+  moved-held : Held (stored (stored (st₂ .left) +ℤ stored (c .before .before .get2 .result)) +ℤ stored (st₂ .moved)) (down₂ .left +ℤ st₂ .moved)
+  moved-held = plus (left-held .read) (moved-read child-start) (omega (arith, moved-small))
+
+  left-step : Held (stored (stored (stored (st₂ .left) +ℤ stored (c .before .before .get2 .result)) +ℤ stored (st₂ .moved)) -ℤ stored (st₂ .«outer_left»))
+      ((down₂ .left +ℤ st₂ .moved) -ℤ st₂ .«outer_left»)
   left-step =
-      minus (moved-held .read) (modest-read (stand child-start .«outer_left») (level child-start .outer-left-modest))
-      (omega (
-        arith,
-        natAbs-sub (lower (work child-start) (stand child-start) .left +ℤ stand child-start .moved) (stand child-start .«outer_left»),
-        natAbs-add (lower (work child-start) (stand child-start) .left) (stand child-start .moved),
-        left-small,
-        level child-start .moved-modest,
-        level child-start .outer-left-modest,
-      ))
+      minus (moved-held .read) (modest-read (st₂ .«outer_left») (level child-start .outer-left-modest))
+      (omega (arith, natAbs-sub (down₂ .left +ℤ st₂ .moved) (st₂ .«outer_left»), moved-small, level child-start .outer-left-modest))
 
 add-step-3 : tie.Need-add-step-3
 add-step-3 c = left-held c .fits

@@ -4,11 +4,9 @@ use Prim.Native.Nat.{ℕ, _<_}
 use borrow.Author.Needs.{needs}
 use lib.IntN.{ℤ, pos, natAbs}
 use lib.Signed.{mag}
-use mir.Syntax.{w32}
-use mir.Val.{toZ, ofZ}
 use Rattle.level_order.specs.Fields.{get, ANCESTOR}
 use Rattle.families.specs.Descent.{ownerOf}
-use Rattle.level_order.proofs.Signed32.{told}
+use Rattle.level_order.proofs.Signed32.{stored, told}
 use Rattle.families.proofs.OwnerOf.{owner-below, owner-left, owner-at, owner-right, not-below, not-below-fits}
 use Rattle.families.proofs.owner.owner.Statement.{statement}
 use Rattle.families.proofs.owner.owner.Tie as tie
@@ -20,7 +18,7 @@ get-requires c κs = search needs
 module _ (c : tie.After-get) where
   -- the ancestor, as the tests see it
   abbrev ancestor : ℤ
-  ancestor = toZ w32 (ofZ w32 (c .get .result))
+  ancestor = stored (c .get .result)
 
   abbrev k : ℕ
   k = natAbs ancestor
