@@ -24,7 +24,7 @@ use Rattle.rule.proofs.Promises.{neighbours-count}
 use Rattle.layout.specs.Operation.{slices, answer}
 use Rattle.second_walk.specs.LastPass.{Settled}
 use Rattle.second_walk.proofs.Recorded.{length-flat}
-use Rattle.second_walk.proofs.Settling.{length-upTo}
+use Rattle.second_walk.proofs.EntryForEach.{length-upTo}
 pub use Rattle.second_walk.proofs.Extreme.{least-small, greatest-small}
 
 -- ---- the tests

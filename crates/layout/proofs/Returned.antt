@@ -23,7 +23,7 @@ use Rattle.rule.specs.Result.{Slices, Answer, Layout, layoutNumber, place, plac
 use Rattle.rule.proofs.Promises.{neighbours-once, neighbours-count, neighbours-apart, part-at, shapes-equal}
 use Rattle.rule.proofs.Extremes.{least-bounds, greatest-bounds, least-met, greatest-met}
 use Rattle.layout.proofs.Answers.{taken}
-use Rattle.second_walk.proofs.Settling.{map-upTo, length-upTo}
+use Rattle.second_walk.proofs.EntryForEach.{map-upTo, length-upTo}
 
 -- ---- nodes of lists that are read off a tree are below n
 

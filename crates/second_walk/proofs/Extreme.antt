@@ -1,108 +1,84 @@
--- The least and the greatest of a table's places, found in any order: a place that bounds all others is the extreme. Assumes nothing.
-use mathlib.Core.Path.{_≡_, refl, ap}
+-- The least and the greatest of a table's places, found position by position: a place that bounds all others is the extreme. Assumes nothing.
+use mathlib.Core.Path.{_≡_, refl, subst}
 use mathlib.Core.Bool.{Bool, true, false, cond}
-use mathlib.Core.List.{List, [], _∷_, _++_, map}
-use Prim.Native.Nat.{ℕ, zero, suc, _+_, _^_, _≤_, _<_}
+use mathlib.Core.List.{List}
+use Prim.Native.Nat.{ℕ, _+_, _^_, _≤_, _<_}
 use native.Mathlib.Omega.{arith}
-use lib.IntN.{ℤ}
+use lib.IntN.{ℤ, pos}
 use lib.Signed.{leZ, mag}
-use Rattle.tree.specs.Numbers.{upTo}
 use Rattle.tree.specs.Table.{nodes}
 use Rattle.tree.specs.WellFormed.{tableNumber}
-use Rattle.tree.proofs.Counting.{All}
-use Rattle.tree.proofs.Tests.{all-upTo}
 use Rattle.tree.proofs.Stands.{accepted-numbers}
-use Rattle.rule.specs.Join.{above0}
 use Rattle.rule.specs.Result.{place, placesOf, lesser, greater, leastOf, greatestOf}
-use Rattle.rule.proofs.Signed.{below0, AtMost, at-most, parts-eq, leZ-true, leZ-false}
-use Rattle.tree.proofs.Joined.{Some, some}
-use Rattle.rule.proofs.Extremes.{least-bounds, greatest-bounds, small-place}
+use Rattle.rule.proofs.Signed.{AtMost, at-most, parts-eq, leZ-true, leZ-false}
+use Rattle.rule.proofs.Extremes.{root-place, least-bounds, greatest-bounds, least-met, greatest-met, small-place}
+use Rattle.level_order.proofs.Order.{node-below, root-first}
+use Rattle.second_walk.proofs.Positions.{placeAt, numberAt, one-more, each-number}
 
--- ---- one of two
+abbrev pub AtLeast : ℤ → ℤ → Type 0
+AtLeast x y = AtMost y x
 
--- the lesser is one of the two, and bounds what either bounds
-pub lesser-is : (P : ℤ → Type 0) (x y : ℤ) → P x → P y → P (lesser x y)
-lesser-is P x y p q = go (leZ x y)
-  where
-    go : (b : Bool) → P (cond b x y)
-    go true = p
-    go false = q
+-- z is the place of a node
+abbrev Place : ℕ → List ℕ → ℤ → Type 0
+Place D t z = (v : ℕ) × (v < nodes t) × (place D t v ≡ z)
 
-pub greater-is : (P : ℤ → Type 0) (x y : ℤ) → P x → P y → P (greater x y)
-greater-is P x y p q = go (leZ x y)
-  where
-    go : (b : Bool) → P (cond b y x)
-    go true = q
-    go false = p
+-- z is a place, and goes before the places of the first p positions
+pub record Extreme (Before : ℤ → ℤ → Type 0) (D : ℕ) (t : List ℕ) (p : ℕ) (z : ℤ) : Type 0 where
+  pub met : Place D t z
+  pub bounds : (q : ℕ) → q < p → Before z (placeAt D t q)
 
-pub lesser-bounds : (x y : ℤ) → AtMost (lesser x y) x × AtMost (lesser x y) y
-lesser-bounds x y = go (leZ x y) refl
-  where
-    go : (b : Bool) → leZ x y ≡ b → AtMost (cond b x y) x × AtMost (cond b x y) y
-    go true e = (omega arith, leZ-true x y e)
-    go false e = (omega (arith, leZ-false x y e), omega arith)
+module _ {Before : ℤ → ℤ → Type 0} {D : ℕ} {t : List ℕ} (accepted : tableNumber t ≡ 0) where
+  -- the root stands at place 0
+  pub extreme-start : Before (pos 0) (pos 0) → Extreme Before D t 1 (pos 0)
+  extreme-start same =
+      record {
+        met = (0, accepted-numbers t accepted .some, root-place D t accepted);
+        bounds = one-more (λ q. Before (pos 0) (placeAt D t q)) 0 (λ q h. absurd (omega arith)) (rw (root-first t accepted, root-place D t accepted) same);
+      }
 
-pub greater-bounds : (x y : ℤ) → AtMost x (greater x y) × AtMost y (greater x y)
-greater-bounds x y = go (leZ x y) refl
-  where
-    go : (b : Bool) → leZ x y ≡ b → AtMost x (cond b y x) × AtMost y (cond b y x)
-    go true e = (leZ-true x y e, omega arith)
-    go false e = (omega arith, omega (arith, leZ-false x y e))
+  end : ((x y : ℤ) → Before x y → Before y x → x ≡ y) → {p : ℕ} {z w : ℤ} → Extreme Before D t p z → nodes t ≤ p
+      → Place D t w → ((v : ℕ) → v < nodes t → Before w (place D t v)) → z ≡ w
+  end equal {p} {z} {w} E h m b =
+      equal z w (subst (Before z) (m .2) (each-number t accepted (λ v. Before z (place D t v)) (λ q k. E .bounds q (omega arith)) (m .0) (m .1)))
+      (subst (Before w) (E .met .2) (b (E .met .0) (E .met .1)))
 
--- ---- of a list
+module _ {D : ℕ} {t : List ℕ} (accepted : tableNumber t ≡ 0) {p : ℕ} {z : ℤ} where
+  -- of the extreme so far and the next place, the one that goes before the other
+  pub least-next : {z′ : ℤ} → Extreme AtMost D t p z → p < nodes t → z′ ≡ lesser z (placeAt D t p) → Extreme AtMost D t (p + 1) z′
+  least-next E h e = rw e (go (leZ z (placeAt D t p)) refl)
+    where
+      go : (b : Bool) → leZ z (placeAt D t p) ≡ b → Extreme AtMost D t (p + 1) (cond b z (placeAt D t p))
+      go true k = record { met = E .met; bounds = one-more (λ q. AtMost z (placeAt D t q)) p (E .bounds) (leZ-true z (placeAt D t p) k) }
+      go false k =
+          record {
+            met = (numberAt t p, node-below t accepted p h, refl);
+            bounds = one-more (λ q. AtMost (placeAt D t p) (placeAt D t q)) p (λ q j. omega (arith, E .bounds q j, leZ-false z (placeAt D t p) k)) (omega arith);
+          }
 
-least-holds : (P : ℤ → Type 0) (l : List ℤ) → Some l → All P l → P (leastOf l)
-least-holds P (x ∷ []) s a = a .0
-least-holds P (x ∷ y ∷ l) s a = lesser-is P x (leastOf (y ∷ l)) (a .0) (least-holds P (y ∷ l) some (a .1))
+  pub greatest-next : {z′ : ℤ} → Extreme AtLeast D t p z → p < nodes t → z′ ≡ greater z (placeAt D t p) → Extreme AtLeast D t (p + 1) z′
+  greatest-next E h e = rw e (go (leZ z (placeAt D t p)) refl)
+    where
+      go : (b : Bool) → leZ z (placeAt D t p) ≡ b → Extreme AtLeast D t (p + 1) (cond b (placeAt D t p) z)
+      go true k =
+          record {
+            met = (numberAt t p, node-below t accepted p h, refl);
+            bounds = one-more (λ q. AtLeast (placeAt D t p) (placeAt D t q)) p (λ q j. omega (arith, E .bounds q j, leZ-true z (placeAt D t p) k)) (omega arith);
+          }
+      go false k = record { met = E .met; bounds = one-more (λ q. AtLeast z (placeAt D t q)) p (E .bounds) (omega (arith, leZ-false z (placeAt D t p) k)) }
 
-greatest-holds : (P : ℤ → Type 0) (l : List ℤ) → Some l → All P l → P (greatestOf l)
-greatest-holds P (x ∷ []) s a = a .0
-greatest-holds P (x ∷ y ∷ l) s a = greater-is P x (greatestOf (y ∷ l)) (a .0) (greatest-holds P (y ∷ l) some (a .1))
+  pub least-end : Extreme AtMost D t p z → nodes t ≤ p → z ≡ leastOf (placesOf D t)
+  least-end E h = end accepted (λ x y a b. parts-eq x y (omega arith)) E h (least-met D t accepted) (λ v k. at-most _ _ (least-bounds D t accepted v k))
 
-all-mapped : (f : ℕ → ℤ) (P : ℤ → Type 0) (l : List ℕ) → All (λ v. P (f v)) l → All P (map f l)
-all-mapped f P [] a = tt
-all-mapped f P (v ∷ l) a = (a .0, all-mapped f P l (a .1))
+  pub greatest-end : Extreme AtLeast D t p z → nodes t ≤ p → z ≡ greatestOf (placesOf D t)
+  greatest-end E h = end accepted (λ x y a b. parts-eq x y (omega arith)) E h (greatest-met D t accepted) (λ v k. at-most _ _ (greatest-bounds D t accepted v k))
 
-some-mapped : (f : ℕ → ℤ) (n : ℕ) → 0 < n → Some (map f (upTo n))
-some-mapped f zero h = absurd (omega arith)
-some-mapped f (suc n) h = front (upTo n)
-  where
-    front : (l : List ℕ) → Some (map f (l ++ (n ∷ [])))
-    front [] = some
-    front (x ∷ l) = some
+-- the extremes are small
+module _ (D : ℕ) (t : List ℕ) (accepted : tableNumber t ≡ 0) (small : D ≤ 1024) where
+  met-small : {z : ℤ} → Place D t z → mag z < 2 ^ 31
+  met-small m = subst (λ (x : ℤ). mag x < 2 ^ 31) (m .2) (omega (arith, small-place D t accepted small (m .0) (m .1)))
 
--- ---- of an accepted table's places
+  pub least-small : mag (leastOf (placesOf D t)) < 2 ^ 31
+  least-small = met-small (least-met D t accepted)
 
-module _ (D : ℕ) (t : List ℕ) (accepted : tableNumber t ≡ 0) where
-  pub is-least : (z : ℤ) (v : ℕ) → v < nodes t → z ≡ place D t v → ((w : ℕ) → w < nodes t → AtMost z (place D t w)) → z ≡ leastOf (placesOf D t)
-  unfolding placesOf
-  is-least z v h e b =
-      let over : AtMost z (leastOf (map (place D t) (upTo (nodes t)))) =
-      least-holds (AtMost z) (map (place D t) (upTo (nodes t))) (some-mapped (place D t) (nodes t) (accepted-numbers t accepted .some))
-      (all-mapped (place D t) (AtMost z) (upTo (nodes t)) (all-upTo (λ w. AtMost z (place D t w)) (nodes t) b)) in
-      let under : AtMost (leastOf (map (place D t) (upTo (nodes t)))) (place D t v) = at-most _ _ (least-bounds D t accepted v h) in
-      parts-eq z (leastOf (map (place D t) (upTo (nodes t)))) (omega (arith, over, under, ap above0 e, ap below0 e))
-
-  pub is-greatest : (z : ℤ) (v : ℕ) → v < nodes t → z ≡ place D t v → ((w : ℕ) → w < nodes t → AtMost (place D t w) z) → z ≡ greatestOf (placesOf D t)
-  unfolding placesOf
-  is-greatest z v h e b =
-      let under : AtMost (greatestOf (map (place D t) (upTo (nodes t)))) z =
-      greatest-holds (λ x. AtMost x z) (map (place D t) (upTo (nodes t))) (some-mapped (place D t) (nodes t) (accepted-numbers t accepted .some))
-      (all-mapped (place D t) (λ x. AtMost x z) (upTo (nodes t)) (all-upTo (λ w. AtMost (place D t w) z) (nodes t) b)) in
-      let over : AtMost (place D t v) (greatestOf (map (place D t) (upTo (nodes t)))) = at-most _ _ (greatest-bounds D t accepted v h) in
-      parts-eq z (greatestOf (map (place D t) (upTo (nodes t)))) (omega (arith, over, under, ap above0 e, ap below0 e))
-
-  -- the extremes are small
-  pub least-small : D ≤ 1024 → mag (leastOf (placesOf D t)) < 2 ^ 31
-  unfolding placesOf
-  least-small h =
-      least-holds (λ z. mag z < 2 ^ 31) (map (place D t) (upTo (nodes t))) (some-mapped (place D t) (nodes t) (accepted-numbers t accepted .some))
-      (all-mapped (place D t) (λ z. mag z < 2 ^ 31) (upTo (nodes t))
-      (all-upTo (λ w. mag (place D t w) < 2 ^ 31) (nodes t) (λ w k. omega (arith, small-place D t accepted h w k))))
-
-  pub greatest-small : D ≤ 1024 → mag (greatestOf (placesOf D t)) < 2 ^ 31
-  unfolding placesOf
-  greatest-small h =
-      greatest-holds (λ z. mag z < 2 ^ 31) (map (place D t) (upTo (nodes t))) (some-mapped (place D t) (nodes t) (accepted-numbers t accepted .some))
-      (all-mapped (place D t) (λ z. mag z < 2 ^ 31) (upTo (nodes t))
-      (all-upTo (λ w. mag (place D t w) < 2 ^ 31) (nodes t) (λ w k. omega (arith, small-place D t accepted h w k))))
+  pub greatest-small : mag (greatestOf (placesOf D t)) < 2 ^ 31
+  greatest-small = met-small (greatest-met D t accepted)

@@ -1,13 +1,24 @@
--- The record as it is written: each pair behind the pairs before it. Assumes nothing.
+-- The record as it is written, position by position: each pair behind the pairs before it. Assumes nothing.
 use mathlib.Core.Path.{_≡_, refl, sym, ap, ap₂, _∙_}
-use mathlib.Core.List.{List, [], _∷_, _++_, append-assoc}
-use Prim.Native.Nat.{ℕ, suc, _+_, _*_, _<_}
+use mathlib.Core.Bool.{Bool, true, false, cond}
+use mathlib.Core.List.{List, [], _∷_, _++_, append-assoc, append-nil}
+use Prim.Native.Nat.{ℕ, suc, _+_, _-_, _*_, _≤_, _<_}
+use native.Mathlib.Numerals.{add-one}
 use native.Mathlib.Omega.{arith}
-use lib.ListN.{length, getD, drop, set, length-append}
-use lib.Seq.{drop-cons, set-at, append-snoc}
+use lib.Dec.{eqb}
+use lib.ListN.{length, getD, take, set, length-append}
+use lib.Seq.{drop-cons, set-append-seam, length-take-le, take-all}
 use Rattle.refusal.specs.After.{overwrite}
-use Rattle.tree.specs.Levels.{Pair}
+use Rattle.tree.specs.Table.{nodes}
+use Rattle.tree.specs.Forest.{treeOf}
+use Rattle.tree.specs.Levels.{Pair, levels, together, level, neighbours}
+use Rattle.tree.specs.WellFormed.{tableNumber}
+use Rattle.tree.proofs.Stands.{accepted-size}
 use Rattle.rule.specs.Record.{flat}
+use Rattle.second_walk.specs.LastPass.{paired}
+use Rattle.level_order.proofs.Order.{node-order, length-levels}
+use Rattle.level_order.proofs.Beside.{link, pairsOn, pairs-next, pairs-few, neighbours-order}
+use Rattle.second_walk.proofs.Positions.{numberAt, levelAt}
 
 pub length-flat : (ps : List Pair) → length (flat ps) ≡ 2 * length ps
 length-flat [] = refl
@@ -17,38 +28,97 @@ flat-append : (ps qs : List Pair) → flat (ps ++ qs) ≡ flat ps ++ flat qs
 flat-append [] qs = refl
 flat-append (p ∷ ps) qs = ap (λ (l : List ℕ). p .0 ∷ p .1 ∷ l) (flat-append ps qs)
 
--- one pair more
-pub flat-pair : (ps : List Pair) (a b : ℕ) (old : List ℕ) → 2 * length ps + 1 < length old
-    → set (set (overwrite (flat ps) old) (2 * length ps) a) (2 * length ps + 1) b ≡ overwrite (flat (ps ++ ((a, b) ∷ []))) old
+-- an entry, and a pair, behind those that are overwritten
+entry-behind : (new old : List ℕ) (i a : ℕ) → length new ≡ i → i < length old → set (overwrite new old) i a ≡ overwrite (new ++ (a ∷ [])) old
 unfolding overwrite
-flat-pair ps a b old h =
-    ap (λ (l : List ℕ). set (set (flat ps ++ l) k a) (k + 1) b) front
-    ∙ ap (λ (l : List ℕ). set l (k + 1) b) (set-at (flat ps) x (y ∷ rest) a k (length-flat ps) ∙ sym (append-snoc (flat ps) a (y ∷ rest)))
-    ∙ set-at (flat ps ++ (a ∷ [])) y rest b (k + 1) one-more
-    ∙ append-snoc (flat ps) a (b ∷ rest)
-    ∙ sym (append-assoc (flat ps) (a ∷ b ∷ []) rest)
-    ∙ ap₂ (λ (l : List ℕ) (j : ℕ). l ++ drop j old) (sym (flat-append ps ((a, b) ∷ []))) (sym two-more)
+entry-behind new old i a e h =
+    let room : length new < length old = omega arith in
+    rw (← e, drop-cons old (length new) 0, set-append-seam, append-assoc, length-append, add-one)
+
+pair-behind : (new old : List ℕ) (k a b : ℕ) → length new ≡ 2 * k → 2 * k + 1 < length old
+    → set (set (overwrite new old) (2 * k) a) (2 * k + 1) b ≡ overwrite (new ++ (a ∷ b ∷ [])) old
+pair-behind new old k a b e h =
+    ap (λ (l : List ℕ). set l (2 * k + 1) b) (entry-behind new old (2 * k) a e (omega arith))
+    ∙ entry-behind (new ++ (a ∷ [])) old (2 * k + 1) b (omega (arith, length-append new (a ∷ []))) h
+    ∙ ap (λ (l : List ℕ). overwrite l old) (append-assoc new (a ∷ []) (b ∷ []))
+
+-- ---- the pairs among the first p positions
+
+abbrev order : List ℕ → List ℕ
+order t = together (levels (treeOf t))
+
+abbrev pairsTo : List ℕ → ℕ → List Pair
+pairsTo t p = pairsOn (level t) (take p (order t))
+
+-- they stand in front in the record
+pub record Recorded (t before : List ℕ) (p pairs : ℕ) (now : List ℕ) : Type 0 where
+  pub room : length before ≡ 2 * nodes t
+  pub size : length now ≡ 2 * nodes t
+  pub count : pairs ≡ length (pairsTo t p)
+  pub written : now ≡ overwrite (flat (pairsTo t p)) before
+
+pub recorded-start : (t now : List ℕ) → length now ≡ 2 * nodes t → Recorded t now 1 0 now
+unfolding overwrite
+recorded-start t now e =
+    record {
+      room = e;
+      size = e;
+      count = sym (ap length (none (order t)));
+      written = sym (ap (λ (l : List Pair). overwrite (flat l) now) (none (order t)));
+    }
   where
-    k : ℕ
-    k = 2 * length ps
+    none : (l : List ℕ) → pairsOn (level t) (take 1 l) ≡ []
+    none [] = refl
+    none (x ∷ l) = refl
 
-    x : ℕ
-    x = getD old k 0
+module _ {t before : List ℕ} {p pairs : ℕ} {now : List ℕ} (accepted : tableNumber t ≡ 0) (R : Recorded t before p pairs now) (some : 1 ≤ p) where
+  order-length : length (order t) ≡ nodes t
+  order-length = length-levels (treeOf t) ∙ accepted-size t accepted
 
-    y : ℕ
-    y = getD old (suc k) 0
+  pub recorded-few : p ≤ nodes t → pairs < p
+  recorded-few h = omega (arith, R .count, pairs-few (level t) (take p (order t)), length-take-le p (order t) (omega (arith, order-length)))
 
-    rest : List ℕ
-    rest = drop (suc (suc k)) old
+  pub recorded-room : p < nodes t → 2 * pairs + 1 < length now
+  recorded-room h = omega (arith, recorded-few (omega arith), R .size)
 
-    front : drop (length (flat ps)) old ≡ x ∷ y ∷ rest
-    front =
-        ap (λ (j : ℕ). drop j old) (length-flat ps)
-        ∙ drop-cons old k 0 (omega arith)
-        ∙ ap (λ (l : List ℕ). x ∷ l) (drop-cons old (suc k) 0 (omega arith))
+  more : p < nodes t → pairsTo t (p + 1) ≡ pairsTo t p ++ link (level t) (numberAt t (p - 1)) (numberAt t p)
+  more h =
+      let s : suc (p - 1) ≡ p = omega arith in
+      let r : suc (suc (p - 1)) ≡ p + 1 = omega arith in
+      sym (ap (pairsTo t) r)
+      ∙ pairs-next (level t) (order t) (p - 1) (omega (arith, order-length))
+      ∙ ap₂ _++_ (ap (pairsTo t) s) (ap₂ (link (level t)) (at (p - 1) (omega arith)) (ap (λ (k : ℕ). getD (order t) k 0) s ∙ at p h))
+    where
+      at : (q : ℕ) → q < nodes t → getD (order t) q 0 ≡ numberAt t q
+      at q h = sym (node-order (treeOf t) q (omega (arith, accepted-size t accepted)))
 
-    one-more : length (flat ps ++ (a ∷ [])) ≡ k + 1
-    one-more = omega (arith, length-append (flat ps) (a ∷ []), length-flat ps)
+  -- one position more, which is a pair with the position before it where both have one level
+  pub recorded-next : p < nodes t → {pairs′ : ℕ} {now′ : List ℕ} → pairs′ ≡ cond (eqb (levelAt t (p - 1)) (levelAt t p)) (pairs + 1) pairs
+      → now′ ≡ paired (numberAt t (p - 1)) (levelAt t (p - 1)) (numberAt t p) (levelAt t p) pairs now → length now′ ≡ length now → Recorded t before (p + 1) pairs′ now′
+  recorded-next h {pairs′} {now′} e f g =
+      let both = go (eqb (levelAt t (p - 1)) (levelAt t p)) (numberAt t (p - 1)) (numberAt t p) e f (more h) in
+      record { room = R .room; size = g ∙ R .size; count = both .0; written = both .1 }
+    where
+      go : (same : Bool) (a b : ℕ) → pairs′ ≡ cond same (pairs + 1) pairs → now′ ≡ cond same (set (set now (2 * pairs) a) (2 * pairs + 1) b) now
+          → pairsTo t (p + 1) ≡ pairsTo t p ++ cond same ((a, b) ∷ []) []
+          → (pairs′ ≡ length (pairsTo t (p + 1))) × (now′ ≡ overwrite (flat (pairsTo t (p + 1))) before)
+      go true a b i j k = (
+        omega (arith, R .count, ap length k, length-append {A = Pair} (pairsTo t p) ((a, b) ∷ [])),
+        j
+            ∙ ap (λ (l : List ℕ). set (set l (2 * pairs) a) (2 * pairs + 1) b) (R .written)
+            ∙ pair-behind (flat (pairsTo t p)) before pairs a b (omega (arith, length-flat (pairsTo t p), R .count)) (omega (arith, recorded-few (omega arith), R .room))
+            ∙ ap (λ (l : List ℕ). overwrite l before) (sym (ap flat k ∙ flat-append (pairsTo t p) ((a, b) ∷ []))),
+      )
+      go false a b i j k =
+          let same : pairsTo t p ≡ pairsTo t (p + 1) = sym (k ∙ append-nil (pairsTo t p)) in
+          (i ∙ R .count ∙ ap length same, j ∙ R .written ∙ ap (λ (l : List Pair). overwrite (flat l) before) same)
 
-    two-more : length (flat (ps ++ ((a, b) ∷ []))) ≡ suc (suc k)
-    two-more = omega (arith, length-flat (ps ++ ((a, b) ∷ [])), length-append {A = Pair} ps ((a, b) ∷ []))
+  -- and at the end the neighbours
+  neighbours-met : nodes t ≤ p → pairsTo t p ≡ neighbours t
+  neighbours-met h = ap (pairsOn (level t)) (take-all p (order t) (omega (arith, order-length))) ∙ neighbours-order t accepted
+
+  pub recorded-count : nodes t ≤ p → pairs ≡ length (neighbours t)
+  recorded-count h = R .count ∙ ap length (neighbours-met h)
+
+  pub recorded-end : nodes t ≤ p → now ≡ overwrite (flat (neighbours t)) before
+  recorded-end h = R .written ∙ ap (λ (l : List Pair). overwrite (flat l) before) (neighbours-met h)

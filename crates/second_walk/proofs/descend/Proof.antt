@@ -1,15 +1,16 @@
 -- `second_walk::descend` meets its contract. Assumes nothing.
-use mathlib.Core.Path.{_≡_, sym, ap, ap₂, _∙_, subst, refl}
+use mathlib.Core.Path.{_≡_, sym, ap, ap₂, _∙_, subst}
 use mathlib.Core.List.{List}
-use Prim.Native.Nat.{ℕ, _+_, _^_, _<_}
+use Prim.Native.Nat.{_^_, _<_}
 use native.Mathlib.Omega.{arith}
 use borrow.Author.Needs.{needs}
 use lib.IntN.{ℤ, pos, natAbs, _+ℤ_}
+use lib.Signed.{mag}
 use mir.Syntax.{w32}
-use mir.Val.{SFits, toZ, ofZ}
+use mir.Val.{toZ, ofZ}
 use Rattle.level_order.specs.Fields.{get, PLACE, LEVEL, put}
-use Rattle.second_walk.specs.LastPass.{Descends}
-use Rattle.level_order.proofs.Signed32.{told, unsigned, castable}
+use Rattle.second_walk.specs.LastPass.{Descends, descended}
+use Rattle.level_order.proofs.Signed32.{Held, told, unsigned, unsigned-fits}
 use Rattle.second_walk.proofs.descend.Statement.{statement}
 use Rattle.second_walk.proofs.descend.Tie as tie
 
@@ -18,20 +19,17 @@ get-requires c κs = search needs
 
 -- the parent has been read
 module _ (c : tie.After-get) where
-  abbrev P : Descends (c .before .before .args .work .now) (c .before .before .args .p)
-  P = c .before .before .pre
+  abbrev s : tie.Start
+  s = c .before .before
 
-  small : P .parent < 2 ^ 31
-  small = omega (arith, P .small, P .before)
-
-  named : c .get .result ≡ pos (P .parent)
-  named = c .get .ensures ∙ P .named
+  abbrev P : Descends (s .args .work .now) (s .args .p)
+  P = s .pre
 
   number : natAbs (toZ w32 (ofZ w32 (c .get .result))) ≡ P .parent
-  number = unsigned (c .get .result) (P .parent) named small
+  number = unsigned (c .get .result) (P .parent) (c .get .ensures ∙ P .named) (omega (arith, P .small, P .before))
 
 cast-q : tie.Need-cast-q
-cast-q c = castable (c .get .result) (P c .parent) (named c) (small c) _ (record { fits = omega (arith, small c) })
+cast-q c = unsigned-fits (c .get .result) (P c .parent) (c .get .ensures ∙ P c .named) (omega (arith, P c .small, P c .before))
 
 get-requires-2 : tie.Need-get-requires-2
 get-requires-2 c κs = omega (arith, number (c .before), P (c .before) .before, P (c .before) .inside)
@@ -39,37 +37,41 @@ get-requires-2 c κs = omega (arith, number (c .before), P (c .before) .before, 
 get-requires-3 : tie.Need-get-requires-3
 get-requires-3 c κs = search needs
 
+-- a sum that fits
+fitting : {z r : ℤ} → z ≡ r → mag r < 2 ^ 31 → Held z r
+fitting e h = let small = subst (λ (x : ℤ). mag x < 2 ^ 31) (sym e) h in record { fits = record { sfits = small }; read = told small e }
+
 -- the two places have been read
 module _ (c : tie.After-get3) where
-  parent-place : toZ w32 (ofZ w32 (c .before .before .get2 .result)) ≡ get (c .before .before .before .before .before .before .args .work .now) PLACE (P (c .before .before .before .before) .parent)
-  parent-place =
-      told {z = c .before .before .get2 .result} (c .before .before .get2 .ok) refl ∙ c .before .before .get2 .ensures ∙ ap (get (c .before .before .before .before .before .before .args .work .now) PLACE) (number (c .before .before .before .before))
+  abbrev n : tie.After-get
+  n = c .before .before .before .before
 
-  own-place : toZ w32 (ofZ w32 (c .get3 .result)) ≡ get (c .before .before .before .before .before .before .args .work .now) PLACE (c .before .before .before .before .before .before .args .p)
-  own-place = told {z = c .get3 .result} (c .get3 .ok) refl ∙ c .get3 .ensures
-
-  both : toZ w32 (ofZ w32 (c .before .before .get2 .result)) +ℤ toZ w32 (ofZ w32 (c .get3 .result))
-      ≡ get (c .before .before .before .before .before .before .args .work .now) PLACE (P (c .before .before .before .before) .parent) +ℤ get (c .before .before .before .before .before .before .args .work .now) PLACE (c .before .before .before .before .before .before .args .p)
-  both = ap₂ _+ℤ_ parent-place own-place
-
-  both-fit : SFits w32 (toZ w32 (ofZ w32 (c .before .before .get2 .result)) +ℤ toZ w32 (ofZ w32 (c .get3 .result)))
-  both-fit = subst (SFits w32) (sym both) (record { sfits = P (c .before .before .before .before) .place-fits })
+  place : Held (toZ w32 (ofZ w32 (c .before .before .get2 .result)) +ℤ toZ w32 (ofZ w32 (c .get3 .result)))
+      (get (s n .args .work .now) PLACE (P n .parent) +ℤ get (s n .args .work .now) PLACE (s n .args .p))
+  place =
+      let g = c .before .before .get2 in
+      fitting (ap₂ _+ℤ_ (told (g .ok) (g .ensures ∙ ap (get (s n .args .work .now) PLACE) (number n))) (told (c .get3 .ok) (c .get3 .ensures))) (P n .place-fits)
 
 add-place : tie.Need-add-place
-add-place c = both-fit c
+add-place c = place c .fits
 
 get-requires-4 : tie.Need-get-requires-4
-get-requires-4 c κs = omega (arith, number (c .before .before .before .before .before), P (c .before .before .before .before .before) .before, P (c .before .before .before .before .before) .inside)
+get-requires-4 c κs = let m = n (c .before) in omega (arith, number m, P m .before, P m .inside)
 
+-- and the level
 module _ (c : tie.After-get4) where
-  parent-level : toZ w32 (ofZ w32 (c .get4 .result)) ≡ get (c .before .before .before .before .before .before .before .before .args .work .now) LEVEL (P (c .before .before .before .before .before .before) .parent)
-  parent-level = told {z = c .get4 .result} (c .get4 .ok) refl ∙ c .get4 .ensures ∙ ap (get (c .before .before .before .before .before .before .before .before .args .work .now) LEVEL) (number (c .before .before .before .before .before .before))
+  abbrev m : tie.After-get
+  m = n (c .before .before)
 
-  next-fits : SFits w32 (toZ w32 (ofZ w32 (c .get4 .result)) +ℤ pos 1)
-  next-fits = subst (λ (z : ℤ). SFits w32 (z +ℤ pos 1)) (sym parent-level) (record { sfits = P (c .before .before .before .before .before .before) .level-fits })
+  abbrev next : ℤ
+  next = toZ w32 (ofZ w32 (c .get4 .result)) +ℤ pos 1
+
+  level : Held next (get (s m .args .work .now) LEVEL (P m .parent) +ℤ pos 1)
+  level =
+      fitting (ap (λ (z : ℤ). z +ℤ pos 1) (told (c .get4 .ok) (c .get4 .ensures ∙ ap (get (s m .args .work .now) LEVEL) (number m)))) (P m .level-fits)
 
 add-level : tie.Need-add-level
-add-level c = next-fits c
+add-level c = level c .fits
 
 put-requires : tie.Need-put-requires
 put-requires c κs = search needs
@@ -82,18 +84,14 @@ same-length c = search needs
 
 returns : tie.Need-returns
 returns c q e =
-    let w = c .before .before .before .before .before .before .before .before .before .before .before .before .before .before .args .work .now in
-    let p = c .before .before .before .before .before .before .before .before .before .before .before .before .before .before .args .p in
-    let x = toZ w32 (ofZ w32 (c .before .before .before .before .before .before .before .before .before .before .get2 .result)) +ℤ toZ w32 (ofZ w32 (c .before .before .before .before .before .before .before .before .get3 .result)) in
-    let y = toZ w32 (ofZ w32 (c .before .before .before .before .before .before .get4 .result)) +ℤ pos 1 in
-    let same : P (c .before .before .before .before .before .before .before .before .before .before .before .before) .parent ≡ q = ap natAbs (sym (P (c .before .before .before .before .before .before .before .before .before .before .before .before) .named) ∙ e) in
-    let a : c .before .put2 .last .0 ≡ put (c .before .before .before .before .put .last .0) LEVEL p (toZ w32 (ofZ w32 y)) = c .before .put2 .ensures in
-    let b : c .before .before .before .before .put .last .0 ≡ put w PLACE p (toZ w32 (ofZ w32 x)) = c .before .before .before .before .put .ensures in
-    a
-    ∙ ap (λ (l : List ℤ). put l LEVEL p (toZ w32 (ofZ w32 y))) b
-    ∙ ap₂ (λ (u v : ℤ). put (put w PLACE p u) LEVEL p v)
-    (told {z = x} (both-fit (c .before .before .before .before .before .before .before .before) .sfits) refl ∙ both (c .before .before .before .before .before .before .before .before) ∙ ap (λ (r : ℕ). get w PLACE r +ℤ get w PLACE p) same)
-    (told {z = y} (next-fits (c .before .before .before .before .before .before) .sfits) refl ∙ ap (λ (z : ℤ). z +ℤ pos 1) (parent-level (c .before .before .before .before .before .before) ∙ ap (get w LEVEL) same))
+    let g = c .before .before .before .before .before .before in
+    let w = s (m g) .args .work .now in
+    let p = s (m g) .args .p in
+    let same : P (m g) .parent ≡ q = ap natAbs (sym (P (m g) .named) ∙ e) in
+    c .before .put2 .ensures
+    ∙ ap (λ (l : List ℤ). put l LEVEL p (toZ w32 (ofZ w32 (next g)))) (c .before .before .before .before .put .ensures)
+    ∙ ap₂ (λ (x y : ℤ). put (put w PLACE p x) LEVEL p y) (place (g .before .before) .read) (level g .read)
+    ∙ ap (descended w p) same
 
 pub descend-spec : {M : Type 1} → statement M
 descend-spec =

@@ -1,21 +1,20 @@
 -- `second_walk::second_walk` meets its contract. Assumes nothing.
-use mathlib.Core.Path.{_≡_, sym, ap, _∙_, refl}
+use mathlib.Core.Path.{_≡_, sym, ap, _∙_}
 use mathlib.Core.List.{List}
 use Prim.Native.Nat.{ℕ, _+_, _-_, _≤_, _<_}
 use native.Mathlib.Omega.{arith}
-use lib.IntN.{pos, natAbs}
+use lib.IntN.{natAbs}
 use mir.Syntax.{w32}
 use mir.Val.{toZ, ofZ}
 use Rattle.tree.specs.Table.{nodes}
 use Rattle.tree.specs.WellFormed.{tableNumber}
 use Rattle.tree.proofs.Stands.{accepted-numbers}
-use Rattle.rule.specs.Result.{lesser, greater}
-use Rattle.level_order.specs.Fields.{get, PLACE}
-use Rattle.second_walk.specs.LastPass.{FromParent, Ready}
-use Rattle.second_walk.specs.LastPass.{descended, Seen, Lengths}
-use Rattle.level_order.proofs.Signed32.{told, unsigned, castable}
-use Rattle.level_order.proofs.Order.{node-below}
-use Rattle.second_walk.proofs.Settling.{N, L, Settling, settle-start, from, settle-descends, settle-seen, settle-before, pair-room, settle-next, last-seen, end-few, settle-end}
+use Rattle.level_order.proofs.Signed32.{told}
+use Rattle.second_walk.specs.LastPass.{Ready, Lengths, Seen}
+use Rattle.second_walk.proofs.Positions.{numberAt, levelAt}
+use Rattle.second_walk.proofs.SeenPosition.{level-number, level-fits}
+use Rattle.second_walk.proofs.Descending.{descends}
+use Rattle.second_walk.proofs.Settling.{Settling, settle-start, seen-here, writes, pairs-with, settle-next, last-seen, settle-few, settle-end}
 use Rattle.second_walk.proofs.second_walk.Statement.{statement}
 use Rattle.second_walk.proofs.second_walk.Tie as tie
 
@@ -64,8 +63,7 @@ put-requires c κs = omega (arith, ready (c .before .before .before .before) .si
 loop-holds : tie.Need-loop-holds Inv-loop μ-loop
 loop-holds c =
     let s = c .before .before .before .before .before .before in
-    settle-start (t s) (accepted s) (D s) (small s) (s .args .places .now) (s .args .levels .now) (s .args .measured .now) (s .args .work .now) (lengths s) (ready s)
-    (c .before .put .last .0) (c .before .put .ensures)
+    settle-start (accepted s) (small s) (lengths s) (ready s) (c .before .put .ensures)
 
 module _ (a : tie.At-loop Inv-loop μ-loop) where
   abbrev start : tie.Start Inv-loop μ-loop
@@ -75,54 +73,29 @@ module _ (a : tie.At-loop Inv-loop μ-loop) where
       (toZ w32 (a .loop .least)) (toZ w32 (a .loop .greatest)) (a .loop .pairs) (a .loop .p)
   S = a .loop .inv
 
--- in a turn
-module _ (c : tie.In-loop Inv-loop μ-loop) where
-  abbrev inside : c .before .loop .p < nodes (t (start (c .before)))
-  inside = c .loop-test .taken
-
 descend-requires : tie.Need-descend-requires Inv-loop μ-loop
-descend-requires c κs =
-    let s = start (c .before .before) in
-    settle-descends (t s) (accepted s) (D s) (small s) _ _ _ _ _ _ _ _ _ _ (S (c .before .before)) (inside (c .before))
+descend-requires c κs = descends (S (c .before .before) .work) (c .before .loop-test .taken)
 
--- the place and the level of the position are there
+-- in a turn, once the place and the level of the position are there
 module _ (c : tie.After-descend Inv-loop μ-loop) where
-  abbrev origin : FromParent (D (start (c .before .before .before))) (t (start (c .before .before .before))) (c .before .before .before .loop .work) (c .before .before .before .loop .p)
-  origin = from (t (start (c .before .before .before))) (accepted (start (c .before .before .before))) (D (start (c .before .before .before))) (small (start (c .before .before .before))) _ _ _ _ _ _ _ _ _ _ (S (c .before .before .before)) (inside (c .before .before))
+  abbrev turn : tie.At-loop Inv-loop μ-loop
+  turn = c .before .before .before
 
-  gone-down : c .descend .last .0 ≡ descended (c .before .before .before .loop .work) (c .before .before .before .loop .p) (origin .parent)
-  gone-down = c .descend .ensures (origin .parent) (origin .named)
-
-  abbrev Node : ℕ → ℕ
-  Node = N (t (start (c .before .before .before))) (D (start (c .before .before .before)))
-
-  abbrev Level : ℕ → ℕ
-  Level = L (t (start (c .before .before .before))) (D (start (c .before .before .before)))
-
-  seen : Seen (c .descend .last .0) (c .before .before .before .loop .p) (Node (c .before .before .before .loop .p)) (Level (c .before .before .before .loop .p))
-  seen =
-      let s = start (c .before .before .before) in
-      settle-seen (t s) (accepted s) (D s) (small s) _ _ _ _ _ _ _ _ _ _ (S (c .before .before .before)) (inside (c .before .before)) (c .descend .last .0) gone-down
-
-  seen-before : Seen (c .descend .last .0) (c .before .before .before .loop .p - 1) (Node (c .before .before .before .loop .p - 1)) (Level (c .before .before .before .loop .p - 1))
-  seen-before =
-      let s = start (c .before .before .before) in
-      settle-before (t s) (accepted s) (D s) (small s) _ _ _ _ _ _ _ _ _ _ (S (c .before .before .before)) (inside (c .before .before)) (c .descend .last .0) gone-down
+  abbrev inside : turn .loop .p < nodes (t (start turn))
+  inside = c .before .before .loop-test .taken
 
 write-requires : tie.Need-write-requires Inv-loop μ-loop
 write-requires c κs =
-    let s = start (c .before .before .before .before .before .before .before) in
-    let p = c .before .before .before .before .before .before .before .loop .p in
-    record {
-      number = Node (c .before .before .before .before) p;
-      depth = Level (c .before .before .before .before) p;
-      seen = seen (c .before .before .before .before);
-      place-inside = omega (arith, node-below (t s) (accepted s) p (inside (c .before .before .before .before .before .before)), S (c .before .before .before .before .before .before .before) .lengths .places);
-      level-inside = omega (arith, node-below (t s) (accepted s) p (inside (c .before .before .before .before .before .before)), S (c .before .before .before .before .before .before .before) .lengths .levels);
-    }
+    let d = c .before .before .before .before in
+    writes (S (turn d)) (inside d) (d .descend .ensures)
+
+abbrev gone : tie.After-get-arg Inv-loop μ-loop → tie.After-descend Inv-loop μ-loop
+gone c = c .before .before .before .before .before .before .before .before .before
 
 get-requires : tie.Need-get-requires Inv-loop μ-loop
-get-requires c κs = omega (arith, seen (c .before .before .before .before .before .before .before .before .before) .inside)
+get-requires c κs =
+    let d = gone c in
+    omega (arith, seen-here (S (turn d)) (inside d) (d .descend .ensures) .inside)
 
 lesser-requires : tie.Need-lesser-requires Inv-loop μ-loop
 lesser-requires c κs = tt
@@ -131,104 +104,81 @@ greater-requires : tie.Need-greater-requires Inv-loop μ-loop
 greater-requires c κs = tt
 
 sub-pair : tie.Need-sub-pair Inv-loop μ-loop
-sub-pair c = S (c .before .before .before .before .before .before .before .before .before .before .before .before .before .before .before .before) .some
+sub-pair c = S (turn (gone (c .before .before .before .before))) .some
 
 pair-requires : tie.Need-pair-requires Inv-loop μ-loop
 pair-requires c κs =
-    let s = start (c .before .before .before .before .before .before .before .before .before .before .before .before .before .before .before .before .before) in
-    let p = c .before .before .before .before .before .before .before .before .before .before .before .before .before .before .before .before .before .loop .p in
-    record {
-      leftNumber = Node (c .before .before .before .before .before .before .before .before .before .before .before .before .before .before) (p - 1);
-      leftDepth = Level (c .before .before .before .before .before .before .before .before .before .before .before .before .before .before) (p - 1);
-      leftSeen = seen-before (c .before .before .before .before .before .before .before .before .before .before .before .before .before .before);
-      rightNumber = Node (c .before .before .before .before .before .before .before .before .before .before .before .before .before .before) p;
-      rightDepth = Level (c .before .before .before .before .before .before .before .before .before .before .before .before .before .before) p;
-      rightSeen = seen (c .before .before .before .before .before .before .before .before .before .before .before .before .before .before);
-      inside = pair-room (t s) (accepted s) (D s) (small s) _ _ _ _ _ _ _ _ _ _ (S (c .before .before .before .before .before .before .before .before .before .before .before .before .before .before .before .before .before)) (inside (c .before .before .before .before .before .before .before .before .before .before .before .before .before .before .before .before)) (c .before .before .before .before .before .before .before .before .before .before .before .before .before .before .descend .last .0) (gone-down (c .before .before .before .before .before .before .before .before .before .before .before .before .before .before));
-    }
+    let d = gone (c .before .before .before .before .before) in
+    pairs-with (S (turn d)) (inside d) (d .descend .ensures)
+
+abbrev descent : tie.After-slice-known4 Inv-loop μ-loop → tie.After-descend Inv-loop μ-loop
+descent c = gone (c .before .before .before .before .before .before .before .before)
 
 add-p : tie.Need-add-p Inv-loop μ-loop
-add-p c = omega (arith, inside (c .before .before .before .before .before .before .before .before .before .before .before .before .before .before .before .before .before .before .before), accepted-numbers (t (start (c .before .before .before .before .before .before .before .before .before .before .before .before .before .before .before .before .before .before .before .before))) (accepted (start (c .before .before .before .before .before .before .before .before .before .before .before .before .before .before .before .before .before .before .before .before))) .few)
+add-p c = let s = start (turn (descent c)) in omega (arith, inside (descent c), accepted-numbers (t s) (accepted s) .few)
 
 loop-less : tie.Need-loop-less Inv-loop μ-loop
-loop-less c = omega (arith, inside (c .before .before .before .before .before .before .before .before .before .before .before .before .before .before .before .before .before .before .before))
+loop-less c = omega (arith, inside (descent c))
 
 loop-again : tie.Need-loop-again Inv-loop μ-loop
 loop-again c =
-    let s = start (c .before .before .before .before .before .before .before .before .before .before .before .before .before .before .before .before .before .before .before .before) in
-    let p = c .before .before .before .before .before .before .before .before .before .before .before .before .before .before .before .before .before .before .before .before .loop .p in
-    let d = c .before .before .before .before .before .before .before .before .before .before .before .before .before .before .before .before .before in
-    let w = c .before .before .before .before .before .before .before .before .before .before .before .before .write in
-    let g = c .before .before .before .before .before .before .before .get in
-    let place : toZ w32 (ofZ w32 (g .result)) ≡ get (d .descend .last .0) PLACE p = told {z = g .result} (g .ok) refl ∙ g .ensures in
-    settle-next (t s) (accepted s) (D s) (small s) _ _ _ _ _ _ _ _ _ _ (S (c .before .before .before .before .before .before .before .before .before .before .before .before .before .before .before .before .before .before .before .before)) (inside (c .before .before .before .before .before .before .before .before .before .before .before .before .before .before .before .before .before .before .before)) (d .descend .last .0) (gone-down d)
-    (w .last .1 .1 .0) (w .ensures .places (Node d p) (Level d p) (seen d))
-    (w .last .1 .1 .1 .0) (w .ensures .levels (Node d p) (Level d p) (seen d))
-    (toZ w32 (ofZ w32 (c .before .before .before .before .before .before .lesser .result))) (toZ w32 (ofZ w32 (c .before .before .before .before .before .greater .result)))
-    (told {z = c .before .before .before .before .before .before .lesser .result} (c .before .before .before .before .before .before .lesser .ok) refl ∙ c .before .before .before .before .before .before .lesser .ensures ∙ ap (lesser (toZ w32 (c .before .before .before .before .before .before .before .before .before .before .before .before .before .before .before .before .before .before .before .before .loop .least))) place)
-    (told {z = c .before .before .before .before .before .greater .result} (c .before .before .before .before .before .greater .ok) refl ∙ c .before .before .before .before .before .greater .ensures ∙ ap (greater (toZ w32 (c .before .before .before .before .before .before .before .before .before .before .before .before .before .before .before .before .before .before .before .before .loop .greatest))) place)
-    (c .before .before .pair .result) (c .before .before .pair .ensures .count (Node d (p - 1)) (Level d (p - 1)) (Node d p) (Level d p) (seen-before d) (seen d))
-    (c .before .before .pair .last .1 .1 .1 .0) (c .before .before .pair .ensures .written (Node d (p - 1)) (Level d (p - 1)) (Node d p) (Level d p) (seen-before d) (seen d))
-    (c .before .before .pair .kept .1 .1 .1 .0)
+    let pair = c .before .before in
+    let greatest = pair .before .before .before in
+    let least = greatest .before in
+    let place = least .before in
+    let write = place .before .before .before .before .before in
+    let d = gone (place .before) in
+    settle-next (S (turn d)) (inside d) (d .descend .ensures) (write .write .ensures) (told (place .get .ok) (place .get .ensures))
+    (told (least .lesser .ok) (least .lesser .ensures)) (told (greatest .greater .ok) (greatest .greater .ensures))
+    (pair .pair .ensures) (pair .pair .kept .1 .1 .1 .0)
 
 -- ---- after the loop
 
 sub-get : tie.Need-sub-get Inv-loop μ-loop
 sub-get c = some (start (c .before .before))
 
--- the last position's level
-module _ (a : tie.After-loop Inv-loop μ-loop) where
-  abbrev done : nodes (t (start (a .before))) ≤ a .before .loop .p
-  done = a .loop-test .left
-
-  last : Seen (a .before .loop .work) (nodes (t (start (a .before))) - 1) (N (t (start (a .before))) (D (start (a .before))) (nodes (t (start (a .before))) - 1))
-      (L (t (start (a .before))) (D (start (a .before))) (nodes (t (start (a .before))) - 1))
-  last =
-      let s = start (a .before) in
-      last-seen (t s) (accepted s) (D s) (small s) _ _ _ _ _ _ _ _ _ _ (S (a .before)) done
-
 get-requires-2 : tie.Need-get-requires-2 Inv-loop μ-loop
-get-requires-2 c κs = omega (arith, last (c .before) .inside)
+get-requires-2 c κs = omega (arith, last-seen (S (c .before .before)) (c .before .loop-test .left) .inside)
 
 module _ (c : tie.After-get2 Inv-loop μ-loop) where
-  abbrev deepest : ℕ
-  deepest = L (t (start (c .before .before .before))) (D (start (c .before .before .before))) (nodes (t (start (c .before .before .before))) - 1)
+  abbrev end : tie.At-loop Inv-loop μ-loop
+  end = c .before .before .before
 
-  deepest-read : c .get2 .result ≡ pos deepest
-  deepest-read = c .get2 .ensures ∙ last (c .before .before) .level
+  abbrev done : nodes (t (start end)) ≤ end .loop .p
+  done = c .before .before .loop-test .left
+
+  abbrev deepest : ℕ
+  deepest = levelAt (t (start end)) (nodes (t (start end)) - 1)
+
+  abbrev last : Seen (end .loop .work) (nodes (t (start end)) - 1) (numberAt (t (start end)) (nodes (t (start end)) - 1)) deepest
+  last = last-seen (S end) done
 
   deepest-number : natAbs (toZ w32 (ofZ w32 (c .get2 .result))) ≡ deepest
-  deepest-number = unsigned (c .get2 .result) deepest deepest-read (omega (arith, last (c .before .before) .near))
+  deepest-number = level-number last (c .get2 .ensures)
 
 cast-last : tie.Need-cast-last Inv-loop μ-loop
-cast-last c =
-    castable (c .get2 .result) (deepest c) (deepest-read c) (omega (arith, last (c .before .before) .near)) _ (record { fits = omega (arith, last (c .before .before) .near) })
+cast-last c = level-fits (last c) (c .get2 .ensures)
 
 add-t40 : tie.Need-add-t40 Inv-loop μ-loop
-add-t40 c = omega (arith, deepest-number c, last (c .before .before) .near)
+add-t40 c = omega (arith, deepest-number c, last c .near)
 
 cast-t41 : tie.Need-cast-t41 Inv-loop μ-loop
-cast-t41 c =
-    let s = start (c .before .before .before) in
-    omega (arith, end-few (t s) (accepted s) (D s) (small s) _ _ _ _ _ _ _ _ _ _ (S (c .before .before .before)) (done (c .before .before)))
+cast-t41 c = omega (arith, settle-few (S (end c)))
 
 same-length : tie.Need-same-length Inv-loop μ-loop
-same-length c = S (c .before .before .before) .lengths .places ∙ sym (lengths (start (c .before .before .before)) .places)
+same-length c = S (end c) .places .size ∙ sym (lengths (start (end c)) .places)
 
 same-length-2 : tie.Need-same-length-2 Inv-loop μ-loop
-same-length-2 c = S (c .before .before .before) .lengths .levels ∙ sym (lengths (start (c .before .before .before)) .levels)
+same-length-2 c = S (end c) .levels .size ∙ sym (lengths (start (end c)) .levels)
 
 same-length-3 : tie.Need-same-length-3 Inv-loop μ-loop
-same-length-3 c = S (c .before .before .before) .lengths .measured ∙ sym (lengths (start (c .before .before .before)) .measured)
+same-length-3 c = S (end c) .measured .size ∙ sym (lengths (start (end c)) .measured)
 
 same-length-4 : tie.Need-same-length-4 Inv-loop μ-loop
-same-length-4 c = S (c .before .before .before) .size ∙ c .before .before .before .before .before .put .kept .0
+same-length-4 c = S (end c) .work .size ∙ end c .before .before .put .kept .0
 
 returns : tie.Need-returns Inv-loop μ-loop
-returns c =
-    let s = start (c .before .before .before) in
-    settle-end (t s) (accepted s) (D s) (small s) _ _ _ _ _ _ _ _ _ _ (S (c .before .before .before)) (done (c .before .before)) (s .args .work .now) (c .before .before .before .before .before .put .ensures)
-    (natAbs (toZ w32 (ofZ w32 (c .get2 .result))) + 1) (ap (λ (k : ℕ). k + 1) (deepest-number c))
+returns c = settle-end (S (end c)) (done c) (ready (start (end c))) (end c .before .before .put .ensures) (ap (λ (k : ℕ). k + 1) (deepest-number c))
 
 pub second-walk-spec : {M : Type 1} → statement M
 second-walk-spec =

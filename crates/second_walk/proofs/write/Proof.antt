@@ -1,14 +1,14 @@
 -- `second_walk::write` meets its contract. Assumes nothing.
-use mathlib.Core.Path.{_≡_, sym, ap, ap₂, _∙_, refl}
-use Prim.Native.Nat.{ℕ}
+use mathlib.Core.Path.{_≡_, ap₂, _∙_}
 use native.Mathlib.Omega.{arith}
 use borrow.Author.Needs.{needs}
-use lib.IntN.{ℤ, pos, natAbs}
+use lib.IntN.{natAbs}
 use lib.ListN.{set}
 use mir.Syntax.{w32}
 use mir.Val.{toZ, ofZ}
 use Rattle.second_walk.specs.LastPass.{Writes}
-use Rattle.level_order.proofs.Signed32.{told, unsigned, castable}
+use Rattle.level_order.proofs.Signed32.{told, unsigned-fits}
+use Rattle.second_walk.proofs.SeenPosition.{same-node, node-number, level-number, level-fits}
 use Rattle.second_walk.proofs.write.Statement.{statement}
 use Rattle.second_walk.proofs.write.Tie as tie
 
@@ -17,17 +17,17 @@ get-requires c κs = search needs
 
 -- the node's number has been read
 module _ (c : tie.After-get) where
-  abbrev W : Writes (c .before .before .args .work .now) (c .before .before .args .p) (c .before .before .args .places .now) (c .before .before .args .levels .now)
-  W = c .before .before .pre
+  abbrev s : tie.Start
+  s = c .before .before
 
-  named : c .get .result ≡ pos (W .number)
-  named = c .get .ensures ∙ W .seen .node
+  abbrev W : Writes (s .args .work .now) (s .args .p) (s .args .places .now) (s .args .levels .now)
+  W = s .pre
 
   number : natAbs (toZ w32 (ofZ w32 (c .get .result))) ≡ W .number
-  number = unsigned (c .get .result) (W .number) named (omega (arith, W .seen .small))
+  number = node-number (W .seen) (c .get .ensures)
 
 cast-v : tie.Need-cast-v
-cast-v c = castable (c .get .result) (W c .number) (named c) (omega (arith, W c .seen .small)) _ (record { fits = omega (arith, W c .seen .small) })
+cast-v c = unsigned-fits (c .get .result) (W c .number) (c .get .ensures ∙ W c .seen .node) (omega (arith, W c .seen .small))
 
 get-requires-2 : tie.Need-get-requires-2
 get-requires-2 c κs = search needs
@@ -41,17 +41,8 @@ slice-set-from-levels c = omega (arith, number (c .before), W (c .before) .place
 get-requires-3 : tie.Need-get-requires-3
 get-requires-3 c κs = search needs
 
--- the level has been read
-module _ (c : tie.After-get3) where
-  leveled : c .get3 .result ≡ pos (W (c .before .before) .depth)
-  leveled = c .get3 .ensures ∙ W (c .before .before) .seen .level
-
-  depth : natAbs (toZ w32 (ofZ w32 (c .get3 .result))) ≡ W (c .before .before) .depth
-  depth = unsigned (c .get3 .result) (W (c .before .before) .depth) leveled (omega (arith, W (c .before .before) .seen .near))
-
 cast-levels : tie.Need-cast-levels
-cast-levels c =
-    castable (c .get3 .result) (W (c .before .before) .depth) (leveled c) (omega (arith, W (c .before .before) .seen .near)) _ (record { fits = omega (arith, W (c .before .before) .seen .near) })
+cast-levels c = level-fits (W (c .before .before) .seen) (c .get3 .ensures)
 
 mul-levels-2 : tie.Need-mul-levels-2
 mul-levels-2 c = omega (arith, number (c .before .before), W (c .before .before) .seen .small)
@@ -67,13 +58,11 @@ same-length-2 c = search needs
 
 returns : tie.Need-returns
 returns c =
+    let n = c .before .before in
+    let place = c .before .get2 in
     record {
-      places = λ v l S.
-          ap₂ (λ (u : ℕ) (z : ℤ). set (c .before .before .before .before .args .places .now) u z) (number (c .before .before) ∙ ap natAbs (sym (W (c .before .before) .seen .node) ∙ S .node))
-          (told {z = c .before .get2 .result} (c .before .get2 .ok) refl ∙ c .before .get2 .ensures);
-      levels = λ v l S.
-          ap₂ (λ (u k : ℕ). set (c .before .before .before .before .args .levels .now) u k) (number (c .before .before) ∙ ap natAbs (sym (W (c .before .before) .seen .node) ∙ S .node))
-          (depth c ∙ ap natAbs (sym (W (c .before .before) .seen .level) ∙ S .level));
+      places = λ v l S. ap₂ (set (s n .args .places .now)) (number n ∙ same-node (W n .seen) S) (told (place .ok) (place .ensures));
+      levels = λ v l S. ap₂ (set (s n .args .levels .now)) (number n ∙ same-node (W n .seen) S) (level-number S (c .get3 .ensures));
     }
 
 pub write-spec : {M : Type 1} → statement M
