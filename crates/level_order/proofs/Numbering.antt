@@ -4,6 +4,7 @@ use mathlib.Core.Logic.{⊎-elim}
 use mathlib.Core.List.{List}
 use Prim.Native.Nat.{ℕ, suc, _+_, _-_, _*_, _≤_, _<_}
 use native.Mathlib.Omega.{arith}
+use borrow.Author.Count.{below-more}
 use lib.IntN.{ℤ, pos}
 use lib.ListN.{length, drop}
 use Rattle.tree.specs.Forest.{Forest, node, size, roots, entry, children}
@@ -38,12 +39,7 @@ pub record Numbering (f : Forest) (n : ℕ) (before work : List ℤ) (p tail : �
 
 -- a number below the next is below, or equal
 split : (P : ℕ → Type 0) (p : ℕ) → ((q : ℕ) → q < p → P q) → P p → (q : ℕ) → q < suc p → P q
-split P p h e q k =
-    ⊎-elim (λ b. h q (b .0))
-    (λ b.
-    let same : p ≡ q = omega (arith, b .0, k) in
-    subst P same e)
-    (below-or-not q p)
+split P p h e q k = below-more P p h e q (omega arith)
 
 -- a number below a sum is below the first part, or the first part and a number below the second
 split-sum : (P : ℕ → Type 0) (a b : ℕ) → ((q : ℕ) → q < a → P q) → ((i : ℕ) → i < b → P (a + i)) → (q : ℕ) → q < a + b → P q

@@ -3,6 +3,7 @@ use mathlib.Core.Path.{_≡_, refl, sym, ap, _∙_, subst}
 use mathlib.Core.List.{List}
 use Prim.Native.Nat.{ℕ, _+_, _*_, _^_, _≤_, _<_}
 use native.Mathlib.Omega.{arith}
+use borrow.Author.Count.{below-more}
 use lib.IntN.{ℤ, pos, _+ℤ_}
 use lib.Signed.{mag}
 use lib.ListN.{length, drop}
@@ -15,7 +16,7 @@ use Rattle.level_order.specs.Fields.{get, put, NODE, PARENT, PLACE, LEVEL}
 use Rattle.level_order.proofs.Cells.{put-length, put-same, put-field, put-position, put-rest}
 use Rattle.level_order.proofs.Order.{node-below, root-first}
 use Rattle.second_walk.specs.LastPass.{FromParent, Ready, Descends, descended, Seen}
-use Rattle.second_walk.proofs.Positions.{numberAt, placeAt, levelAt, one-more}
+use Rattle.second_walk.proofs.Positions.{numberAt, placeAt, levelAt}
 
 pub record Stands (D : ℕ) (t : List ℕ) (work : List ℤ) (q : ℕ) : Type 0 where
   pub place : get work PLACE q ≡ placeAt D t q
@@ -64,7 +65,7 @@ module _ {D : ℕ} {t : List ℕ} {work work′ : List ℤ} (accepted : tableNum
         size = refl;
         rest = refl;
         node = λ q h. kept NODE q (omega arith) ∙ R .node q h;
-        stands = one-more (Stands D t work′) 0 (λ q h. absurd (omega arith)) root;
+        stands = below-more (Stands D t work′) 0 (λ q h. absurd (omega arith)) root;
         others = λ q k h. same-parent (kept PARENT q (omega arith)) (kept PLACE q (omega arith)) (R .others q k h);
       }
     where
@@ -158,7 +159,7 @@ module _ {D : ℕ} {t : List ℕ} {before work : List ℤ} {p : ℕ} (S : Descen
             size = size-same ∙ S .size;
             rest = rw e (put-rest half LEVEL p next (omega arith) (nodes t) h ∙ put-rest work PLACE p _ (omega arith) (nodes t) h) ∙ S .rest;
             node = λ r k. field-kept NODE r (omega arith) ∙ S .node r k;
-            stands = one-more (Stands D t work′) p old new;
+            stands = below-more (Stands D t work′) p old new;
             others = λ r k₀ k. same-parent (field-kept PARENT r (omega arith)) (position-kept PLACE r (omega arith) (λ j. omega arith)) (S .others r (omega arith) k);
           }
         where

@@ -4,6 +4,7 @@ use mathlib.Core.Bool.{Bool, true, false, cond}
 use mathlib.Core.List.{List}
 use Prim.Native.Nat.{ℕ, _+_, _^_, _≤_, _<_}
 use native.Mathlib.Omega.{arith}
+use borrow.Author.Count.{below-more}
 use lib.IntN.{ℤ, pos}
 use lib.Signed.{leZ, mag}
 use Rattle.tree.specs.Table.{nodes}
@@ -13,7 +14,7 @@ use Rattle.rule.specs.Result.{place, placesOf, lesser, greater, leastOf, greate
 use Rattle.rule.proofs.Signed.{AtMost, at-most, parts-eq, leZ-true, leZ-false}
 use Rattle.rule.proofs.Extremes.{root-place, least-bounds, greatest-bounds, least-met, greatest-met, small-place}
 use Rattle.level_order.proofs.Order.{node-below, root-first}
-use Rattle.second_walk.proofs.Positions.{placeAt, numberAt, one-more, each-number}
+use Rattle.second_walk.proofs.Positions.{placeAt, numberAt, each-number}
 
 abbrev pub AtLeast : ℤ → ℤ → Type 0
 AtLeast x y = AtMost y x
@@ -33,7 +34,7 @@ module _ {Before : ℤ → ℤ → Type 0} {D : ℕ} {t : List ℕ} (accepted : 
   extreme-start same =
       record {
         met = (0, accepted-numbers t accepted .some, root-place D t accepted);
-        bounds = one-more (λ q. Before (pos 0) (placeAt D t q)) 0 (λ q h. absurd (omega arith)) (rw (root-first t accepted, root-place D t accepted) same);
+        bounds = below-more (λ q. Before (pos 0) (placeAt D t q)) 0 (λ q h. absurd (omega arith)) (rw (root-first t accepted, root-place D t accepted) same);
       }
 
   end : ((x y : ℤ) → Before x y → Before y x → x ≡ y) → {p : ℕ} {z w : ℤ} → Extreme Before D t p z → nodes t ≤ p
@@ -48,11 +49,11 @@ module _ {D : ℕ} {t : List ℕ} (accepted : tableNumber t ≡ 0) {p : ℕ} {z 
   least-next E h e = rw e (go (leZ z (placeAt D t p)) refl)
     where
       go : (b : Bool) → leZ z (placeAt D t p) ≡ b → Extreme AtMost D t (p + 1) (cond b z (placeAt D t p))
-      go true k = record { met = E .met; bounds = one-more (λ q. AtMost z (placeAt D t q)) p (E .bounds) (leZ-true z (placeAt D t p) k) }
+      go true k = record { met = E .met; bounds = below-more (λ q. AtMost z (placeAt D t q)) p (E .bounds) (leZ-true z (placeAt D t p) k) }
       go false k =
           record {
             met = (numberAt t p, node-below t accepted p h, refl);
-            bounds = one-more (λ q. AtMost (placeAt D t p) (placeAt D t q)) p (λ q j. omega (arith, E .bounds q j, leZ-false z (placeAt D t p) k)) (omega arith);
+            bounds = below-more (λ q. AtMost (placeAt D t p) (placeAt D t q)) p (λ q j. omega (arith, E .bounds q j, leZ-false z (placeAt D t p) k)) (omega arith);
           }
 
   pub greatest-next : {z′ : ℤ} → Extreme AtLeast D t p z → p < nodes t → z′ ≡ greater z (placeAt D t p) → Extreme AtLeast D t (p + 1) z′
@@ -62,9 +63,9 @@ module _ {D : ℕ} {t : List ℕ} (accepted : tableNumber t ≡ 0) {p : ℕ} {z 
       go true k =
           record {
             met = (numberAt t p, node-below t accepted p h, refl);
-            bounds = one-more (λ q. AtLeast (placeAt D t p) (placeAt D t q)) p (λ q j. omega (arith, E .bounds q j, leZ-true z (placeAt D t p) k)) (omega arith);
+            bounds = below-more (λ q. AtLeast (placeAt D t p) (placeAt D t q)) p (λ q j. omega (arith, E .bounds q j, leZ-true z (placeAt D t p) k)) (omega arith);
           }
-      go false k = record { met = E .met; bounds = one-more (λ q. AtLeast z (placeAt D t q)) p (E .bounds) (omega (arith, leZ-false z (placeAt D t p) k)) }
+      go false k = record { met = E .met; bounds = below-more (λ q. AtLeast z (placeAt D t q)) p (E .bounds) (omega (arith, leZ-false z (placeAt D t p) k)) }
 
   pub least-end : Extreme AtMost D t p z → nodes t ≤ p → z ≡ leastOf (placesOf D t)
   least-end E h = end accepted (λ x y a b. parts-eq x y (omega arith)) E h (least-met D t accepted) (λ v k. at-most _ _ (least-bounds D t accepted v k))

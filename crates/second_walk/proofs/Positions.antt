@@ -4,6 +4,7 @@ use mathlib.Core.Logic.{⊎-elim}
 use mathlib.Core.List.{List, map}
 use Prim.Native.Nat.{ℕ, _+_, _≤_, _<_}
 use native.Mathlib.Omega.{arith}
+use borrow.Author.Count.{below-more}
 use lib.IntN.{ℤ}
 use lib.ListN.{length, getD, set, length-set}
 use lib.Seq.{getD-set-same, getD-set-other}
@@ -28,13 +29,6 @@ placeAt D t q = place D t (numberAt t q)
 abbrev pub levelAt : List ℕ → ℕ → ℕ
 levelAt t q = level t (numberAt t q)
 
--- one position more
-pub one-more : (P : ℕ → Type 0) (p : ℕ) → ((q : ℕ) → q < p → P q) → P p → (q : ℕ) → q < p + 1 → P q
-one-more P p before here q h =
-    ⊎-elim (λ s. before q (s .0))
-    (λ s. let same : p ≡ q = omega (arith, s .0) in subst P same here)
-    (below-or-not q p)
-
 -- what holds at each position holds of each number
 pub each-number : (t : List ℕ) → tableNumber t ≡ 0 → (P : ℕ → Type 0) → ((q : ℕ) → q < nodes t → P (numberAt t q)) → (v : ℕ) → v < nodes t → P v
 each-number t accepted P h v k =
@@ -53,7 +47,7 @@ module _ {A : Type 0} {t : List ℕ} {f : ℕ → A} {d : A} (accepted : tableNu
   by-number-next {p} {l} {l′} {z} B h e g =
       record {
         size = ap length e ∙ length-set l v z ∙ B .size;
-        entry = one-more (λ q. getD l′ (numberAt t q) d ≡ f (numberAt t q)) p (λ q k. rw e (elsewhere (numberAt t q) (B .entry q k))) (rw e here);
+        entry = below-more (λ q. getD l′ (numberAt t q) d ≡ f (numberAt t q)) p (λ q k. rw e (elsewhere (numberAt t q) (B .entry q k))) (rw e here);
       }
     where
       v : ℕ
