@@ -13,12 +13,13 @@ use Rattle.rule.specs.Join.{alone}
 use Rattle.rule.proofs.Signed.{parts-add, AtMost}
 use Rattle.rule.proofs.Names.{names, names-draw}
 use Rattle.rule.proofs.Spacing.{row-none}
-use Rattle.rule.proofs.Within.{OnLevel, top, down, on-left, on-right}
-use Rattle.rule.proofs.Width.{Narrow, span, narrow-draw, narrow-drawOnto, narrow-none, narrow-alone, last-mem}
+use Rattle.rule.proofs.OnLevel.{OnLevel, top, down, on-left, on-right}
+use Rattle.rule.proofs.Width.{Narrow, span, narrow-draw, narrow-drawOnto, narrow-none, narrow-alone}
 use Rattle.contours.specs.Rows.{placeAt, rowDrawn, childrenDrawn}
 use Rattle.level_order.proofs.Positions.{Ordered, mono-le, within, run, run-node, run-nil, run-cut}
 use Rattle.contours.proofs.Places.{row-width, row-first}
 use Rattle.contours.proofs.Steps.{row-top}
+use Rattle.rule.proofs.LevelEnds.{last-mem}
 
 -- a dot of one of the levels
 pub on-here : (us : List (List Dot)) (x : List Dot) (xs : List (List Dot)) (e : Dot) → List·Memᴰ e x → OnLevel e (length us) (us ++ (x ∷ xs))

@@ -6,18 +6,19 @@ use native.Mathlib.Omega.{arith}
 use lib.IntN.{ℤ, pos, _+ℤ_, _-ℤ_}
 use Rattle.tree.specs.Numbers.{count}
 use Rattle.tree.specs.Forest.{Forest, node, preorder}
-use Rattle.tree.proofs.Counting.{All, count-append, is-same}
+use Rattle.tree.proofs.Counting.{All, count-append, is-same, all-weaken}
 use Rattle.rule.specs.Drawing.{Drawing, none, at, width, middle, Dot, dot, dots, rowDots, firstOf, lastOf}
 use Rattle.rule.specs.Join.{alone}
 use Rattle.rule.specs.Rule.{draw}
 use Rattle.rule.proofs.Names.{names, names-draw}
-use Rattle.rule.proofs.Spacing.{first-in, last-in, beside-all, all-weaken, levels-weaken, row-drawOnto, row-none}
+use Rattle.rule.proofs.Spacing.{beside-all, levels-weaken, row-drawOnto, row-none}
 use Rattle.contours.specs.Contours.{LeftSteps, RightSteps}
 use Rattle.contours.specs.Rows.{Subtree, childrenDrawn}
 use Rattle.level_order.proofs.Positions.{Ordered, family, run-nil}
 use Rattle.contours.proofs.Steps.{left-frame, right-frame, all-inner}
 use Rattle.level_order.proofs.Occurs.{times, times-root}
 use Rattle.tree.proofs.Joined.{Some}
+use Rattle.rule.proofs.LevelEnds.{first-in, last-in}
 
 -- the node of the dot is one of the forest's
 abbrev pub Of : Forest → Dot → Type 0

@@ -8,7 +8,7 @@ use Rattle.tree.specs.Levels.{beside}
 use Rattle.tree.proofs.Counting.{All}
 use Rattle.rule.specs.Drawing.{Dot, lastOf}
 use Rattle.tree.proofs.Joined.{Some, some}
-use Rattle.rule.proofs.Spacing.{last-in, last-map, last-append}
+use Rattle.rule.proofs.LevelEnds.{last-in, last-map, last-append}
 use Rattle.contours.specs.Rows.{Outside, Owned}
 
 -- what the walk leaves of the new child's right contour: the nodes on the levels walked have the child, at position c, for their ancestor,

@@ -11,7 +11,7 @@ use Rattle.rule.specs.Join as rule
 use Rattle.rule.specs.Rule.{draw}
 use Rattle.rule.proofs.Moving.{width-join, width-spread}
 use Rattle.rule.proofs.Tight.{drawOnto-join}
-use Rattle.rule.proofs.Spacing.{share-none}
+use Rattle.rule.proofs.Shares.{share-none}
 use Rattle.contours.specs.Rows.{placeAt, rowDrawn, childrenDrawn}
 use Rattle.level_order.proofs.Positions.{Ordered, run, family, run-last, run-nil}
 

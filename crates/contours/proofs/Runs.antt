@@ -13,7 +13,7 @@ use Rattle.rule.specs.Drawing.{Drawing, none, at, middle, Dot, dot, dots, rowDo
 use Rattle.rule.specs.Join.{alone}
 use Rattle.rule.specs.Rule.{draw}
 use Rattle.rule.proofs.Names.{names, names-draw}
-use Rattle.rule.proofs.Spacing.{last-append, last-map, first-map}
+use Rattle.rule.proofs.LevelEnds.{last-append, last-map, first-map}
 use Rattle.level_order.proofs.Positions.{Ordered, Laid, mono-le, within, run, family, laid-run}
 use Rattle.tree.proofs.Joined.{Some, some, some-front}
 

@@ -11,7 +11,7 @@ use Rattle.rule.specs.Join.{above0, alone}
 use Rattle.rule.proofs.Signed.{below0, parts-add, parts-sub, parts-eq}
 use Rattle.tree.proofs.Joined.{Some, some}
 use Rattle.rule.proofs.Moving.{settle, dots-row}
-use Rattle.rule.proofs.Spacing.{first-map, last-map}
+use Rattle.rule.proofs.LevelEnds.{first-map, last-map}
 use Rattle.contours.specs.Contours.{LeftSteps, RightSteps}
 use Rattle.level_order.proofs.Positions.{Ordered, mono-le, within}
 use Rattle.contours.proofs.Runs.{Runs}

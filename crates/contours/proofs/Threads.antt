@@ -8,15 +8,18 @@ use native.Mathlib.Omega.{arith}
 use lib.IntN.{ℤ, pos, _+ℤ_, _-ℤ_}
 use Rattle.tree.specs.Forest.{Forest, nil, node}
 use Rattle.tree.specs.Levels.{beside}
-use Rattle.tree.proofs.Counting.{All}
+use Rattle.tree.proofs.Counting.{All, all-weaken}
 use Rattle.rule.specs.Drawing.{Drawing, none, width, Dot, dot, dots, rowDots, firstOf, lastOf, leftContour, rightContour}
 use Rattle.rule.specs.Join.{needed, shortfall, meet, shares, total, start, alone, join, meetings}
 use Rattle.rule.specs.Rule.{drawOnto}
 use Rattle.rule.proofs.Signed.{parts-add, parts-sub, parts-eq}
 use Rattle.tree.proofs.Joined.{Some, some}
 use Rattle.rule.proofs.Moving.{shiftBy, moveBy, rowDots-join}
-use Rattle.rule.proofs.Spacing.{share-none, Spaced, Falling, Row, first-in, last-map, first-map, last-append, all-weaken, alone-child, row-join, row-none, row-drawOnto}
+use Rattle.rule.proofs.Spacing.{Spaced, Row, alone-child, row-join, row-none, row-drawOnto}
 use Rattle.contours.specs.Contours.{LeftSteps, RightSteps}
+use Rattle.rule.proofs.Shares.{share-none}
+use Rattle.rule.proofs.Walk.{Falling}
+use Rattle.rule.proofs.LevelEnds.{first-in, last-map, first-map, last-append}
 
 -- ---- down the left contour the children are met from left to right
 

@@ -12,8 +12,8 @@ use Rattle.rule.specs.Drawing.{Drawing, none, at, width, lastPlace, Dot, dot, d
 use Rattle.rule.specs.Join.{alone, total}
 use Rattle.rule.specs.Join as rule
 use Rattle.rule.proofs.AtOnce.{total-append}
-use Rattle.rule.proofs.Within.{OnLevel}
-use Rattle.rule.proofs.Width.{last-mem, first-mem}
+use Rattle.rule.proofs.OnLevel.{OnLevel}
+use Rattle.rule.proofs.LevelEnds.{last-mem, first-mem}
 use Rattle.level_order.specs.Fields.{get, FIRST, COUNT, LEFT, RIGHT, ANCESTOR, SHIFT, CHANGE}
 use Rattle.level_order.proofs.Positions.{within}
 use Rattle.contours.specs.Contours.{LeftSteps, RightSteps}

@@ -13,8 +13,8 @@ use Rattle.refusal.proofs.Truth.{or-true}
 use Rattle.tree.specs.Table.{nodes}
 use Rattle.rule.specs.Drawing.{Dot, firstOf, lastOf}
 use Rattle.rule.specs.Join.{above0}
-use Rattle.rule.proofs.Within.{OnLevel}
-use Rattle.rule.proofs.Width.{last-mem, first-mem}
+use Rattle.rule.proofs.OnLevel.{OnLevel}
+use Rattle.rule.proofs.LevelEnds.{last-mem, first-mem}
 use Rattle.level_order.specs.Fields.{get, FIRST, COUNT, LEFT, RIGHT, ANCESTOR}
 use Rattle.contours.specs.Contours.{LeftSteps, RightSteps}
 use Rattle.contours.proofs.Runs.{Runs}

@@ -15,7 +15,7 @@ use Rattle.rule.specs.Join.{above0, alone}
 use Rattle.rule.specs.Join as rule
 use Rattle.rule.specs.Rule.{draw}
 use Rattle.tree.proofs.Joined.{Some}
-use Rattle.rule.proofs.Spacing.{last-in, row-drawOnto, row-none, alone-child}
+use Rattle.rule.proofs.Spacing.{row-drawOnto, row-none, alone-child}
 use Rattle.level_order.specs.LevelOrder.{firstAt}
 use Rattle.level_order.specs.Fields.{get, put, NODE, FIRST, COUNT, PLACE, LEFT, RIGHT, ANCESTOR, SHIFT, CHANGE}
 use Rattle.level_order.specs.Numbered.{Numbered}
@@ -32,6 +32,7 @@ use Rattle.contours.proofs.Steps.{subtree-left, subtree-right}
 use Rattle.level_order.proofs.InOrder.{ordered}
 use Rattle.level_order.proofs.Occurs.{times-once, times-from, times-below}
 use Rattle.contours.proofs.Kept.{subtree-kept}
+use Rattle.rule.proofs.LevelEnds.{last-in}
 
 -- nothing gathered, nothing pending
 gather-none : (shift change : ℕ → ℤ) (f end m : ℕ) → ((q : ℕ) → f ≤ q → q < end → shift q ≡ pos 0) → ((q : ℕ) → f ≤ q → q < end → change q ≡ pos 0)

@@ -15,7 +15,7 @@ use Rattle.rule.specs.Join.{start, alone, total, meetings}
 use Rattle.rule.specs.Join as rule
 use Rattle.rule.proofs.Names.{names-draw, nodes-dots, nodes-rowDots}
 use Rattle.rule.proofs.Spacing.{Row as RuleRow, Child, row-drawOnto, row-none}
-use Rattle.rule.proofs.Within.{OnLevel}
+use Rattle.rule.proofs.OnLevel.{OnLevel}
 use Rattle.rule.proofs.Tight.{on-names}
 use Rattle.level_order.specs.LevelOrder.{firstAt}
 use Rattle.level_order.specs.Fields.{get, PLACE, LEFT, RIGHT}

@@ -14,7 +14,7 @@ use Rattle.rule.specs.Drawing.{width, Dot, lastOf, leftContour, rightContour}
 use Rattle.rule.specs.Join.{above0, total}
 use Rattle.rule.specs.Join as rule
 use Rattle.rule.proofs.Signed.{parts-add, parts-sub, parts-eq}
-use Rattle.rule.proofs.Spacing.{last-in}
+use Rattle.rule.proofs.LevelEnds.{last-in}
 use Rattle.rule.proofs.AtOnce.{total-append}
 use Rattle.level_order.specs.Fields.{get, ANCESTOR, SHIFT, CHANGE}
 use Rattle.level_order.proofs.Cells.{put-length, put-same, put-field, put-position, put-rest}

@@ -11,8 +11,8 @@ use Rattle.tree.specs.Table.{nodes}
 use Rattle.tree.proofs.Counting.{All, all-append, all-right, is-cases}
 use Rattle.tree.proofs.Joined.{Some}
 use Rattle.rule.specs.Drawing.{Dot, width, firstOf, lastOf}
-use Rattle.rule.proofs.Within.{OnLevel, top, down}
-use Rattle.rule.proofs.Width.{last-mem, first-mem}
+use Rattle.rule.proofs.OnLevel.{OnLevel, top, down}
+use Rattle.rule.proofs.LevelEnds.{last-mem, first-mem}
 use Rattle.level_order.specs.Fields.{get, ANCESTOR}
 use Rattle.level_order.proofs.Positions.{Ordered, mono-le, within}
 use Rattle.level_order.proofs.Occurs.{times-root}

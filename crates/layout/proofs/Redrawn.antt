@@ -11,7 +11,7 @@ use Rattle.rule.specs.Drawing.{Drawing, none, at, width, middle, Dot, dot, dots
 use Rattle.rule.specs.Rule.{draw}
 use Rattle.rule.proofs.Names.{names, names-draw}
 use Rattle.rule.proofs.Shapes.{blank, blank-middle, same-drawing}
-use Rattle.rule.proofs.Within.{OnLevel, top, down}
+use Rattle.rule.proofs.OnLevel.{OnLevel, top, down}
 use Rattle.level_order.proofs.Rename.{rename, rename-shape}
 
 abbrev pub renameDrawing : (ℕ → ℕ) → Drawing → Drawing

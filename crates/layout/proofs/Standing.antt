@@ -20,7 +20,7 @@ use Rattle.rule.specs.Rule.{draw, drawn}
 use Rattle.rule.specs.Result.{place}
 use Rattle.rule.proofs.Signed.{below0, parts-add, parts-sub, parts-eq}
 use Rattle.rule.proofs.Names.{names, names-draw}
-use Rattle.rule.proofs.Within.{OnLevel, top, down, on-left, on-right}
+use Rattle.rule.proofs.OnLevel.{OnLevel, top, down, on-left, on-right}
 use Rattle.rule.proofs.Lookup.{dot-place, dot-level}
 use Rattle.level_order.specs.LevelOrder.{nodeAt, firstAt, positions, positionTree}
 use Rattle.level_order.specs.Fields.{get, NODE, PARENT, PLACE}

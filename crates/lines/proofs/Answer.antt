@@ -6,10 +6,11 @@ use native.Mathlib.Omega.{arith}
 use mathlib.Core.Bool.{Bool, true, false}
 use mathlib.Core.List.{List, _++_}
 use lib.Dec.{leb}
-use lib.ListN.{length, drop, length-append}
+use lib.ListN.{length, drop}
 use lib.Seq.{sets-eq, length-take-le}
 use borrow.Author.Tests.{leb-true}
 use Rattle.refusal.specs.After.{overwrite}
+use Rattle.refusal.proofs.After.{length-overwrite}
 use Rattle.refusal.proofs.Truth.{and-left, and-right}
 use Rattle.lines.specs.Printed.{mostNodes, listingRoom, printable, when, Printed}
 use Rattle.lines.specs.Steps.{Put}
@@ -26,7 +27,7 @@ unfolding overwrite
 printed {text = text} {old = old} {new = new} {answer = answer} holds room put =
     let within : 0 + length text ≤ length old = omega arith in
     let buffer : new ≡ overwrite text old = put .buffer ∙ sets-eq text old 0 within ∙ ap (λ (k : ℕ). text ++ drop k old) (zero-add (length text)) in
-    let inside : answer ≤ length new = omega (arith, put .place, ap length buffer, length-append text (drop (length text) old)) in
+    let inside : answer ≤ length new = omega (arith, ap length buffer, length-overwrite text old room) in
     subst (λ (b : Bool). Printed (when b text) old answer new) (sym holds) (record {
       bytes = put .place ∙ zero-add (length text);
       buffer = buffer;

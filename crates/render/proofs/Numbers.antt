@@ -1,12 +1,10 @@
--- With slices that are long enough the layout of a table has the table's number; what an accepted operation leaves; and the text that a
--- number decides on. Assumes nothing.
-use mathlib.Core.Path.{_≡_, refl, sym, ap, _∙_}
-use mathlib.Core.List.{List, _++_}
+-- With slices that are long enough the layout of a table has the table's number; and the text that a number decides on. Assumes nothing.
+use mathlib.Core.Path.{_≡_, refl, sym, _∙_}
+use mathlib.Core.List.{List}
 use Prim.Native.Nat.{ℕ, zero, suc, _≤_}
 use native.Mathlib.Omega.{arith}
-use lib.ListN.{length, take, drop}
-use lib.Seq.{take-append-seam}
-use Rattle.refusal.specs.After.{overwrite, after}
+use lib.ListN.{length}
+use Rattle.refusal.proofs.After.{granted-accepted, granted-refused}
 use Rattle.tree.specs.WellFormed.{tableNumber}
 use Rattle.tree.proofs.Stands.{accepted-numbers}
 use Rattle.rule.specs.Result.{Slices, layoutNumber}
@@ -28,19 +26,10 @@ module _ (t : List ℕ) (D : ℕ) (s : Slices) (some : 1 ≤ D) (small : D ≤ 1
           (work-long t s (omega (arith, few)))) ∙ e
       go (suc k) e = sym (number-table t D s (suc k) e (λ z. omega arith)) ∙ e
 
--- ---- what an accepted operation leaves
-
--- the entries that it wrote
-pub written : {A : Type 0} (k n : ℕ) (new old : List A) → k ≡ 0 → length new ≡ n → take n (after k new old) ≡ new
-unfolding after overwrite
-written {A} k n new old e l =
-    ap (λ (j : ℕ). take n (after j new old)) e ∙ ap (λ (j : ℕ). take j (new ++ drop (length new) old)) (sym l) ∙ take-append-seam new (drop (length new) old)
-
 -- ---- the text
 
 pub text-refused : (k : ℕ) (text : List ℕ) → (k ≡ 0 → ⊥) → unlessRefused k text ≡ refusedLine k
-text-refused zero text h = absurd (h refl)
-text-refused (suc k) text h = refl
+text-refused k text h = granted-refused k text (refusedLine k) h
 
 pub text-granted : (k : ℕ) (text : List ℕ) → k ≡ 0 → unlessRefused k text ≡ text
-text-granted k text e = ap (λ (j : ℕ). unlessRefused j text) e
+text-granted k text e = granted-accepted k text (refusedLine k) e

@@ -7,7 +7,7 @@ use Prim.Native.Nat.{ℕ, _*_, _%_, _≤_, _<_}
 use lib.Dec.{eqb, ltb, leb}
 use lib.ListN.{length, take}
 use borrow.Author.Tests.{le-leb, lt-ltb}
-use Rattle.refusal.specs.After.{granted}
+use Rattle.refusal.proofs.After.{granted-accepted, after-accepted, take-overwrite}
 use Rattle.tree.specs.Table.{nodes}
 use Rattle.refusal.proofs.Truth.{or-true}
 use Rattle.sheet.specs.Below.{joined}
@@ -20,7 +20,7 @@ use Rattle.sheet.proofs.Answer.{readable, file-decides}
 use Rattle.lines.specs.Listing.{refusedLine}
 use Rattle.lines.specs.Printed.{mostNodes, when, Printed, RefusalPrinted}
 use Rattle.render.specs.Text.{textRoom, tableText, sheetText}
-use Rattle.render.proofs.Numbers.{written, text-refused, text-granted}
+use Rattle.render.proofs.Numbers.{text-refused, text-granted}
 use Rattle.render.proofs.TableText.{refusal-shown}
 
 -- a text that is printed where there is room for it
@@ -50,10 +50,10 @@ module _ (file table tapes table′ tapes′ : List ℕ) (r : Sheet) (table-long
     file-sound = sym reads ∙ taken
 
     nodes-read : r .nodes ≡ nodesOf file
-    nodes-read = S .nodes ∙ ap (λ (k : ℕ). granted k (nodesOf file) 0) taken
+    nodes-read = S .nodes ∙ granted-accepted _ (nodesOf file) 0 taken
 
     separation-read : r .separation ≡ separationOf file
-    separation-read = S .separation ∙ ap (λ (k : ℕ). granted k (separationOf file) 0) taken
+    separation-read = S .separation ∙ granted-accepted _ (separationOf file) 0 taken
 
     pub nodes-few : r .nodes ≤ 1024
     nodes-few = subst (λ (n : ℕ). n ≤ 1024) (sym nodes-read) (readable file file-sound .nodes-most)
@@ -69,15 +69,13 @@ module _ (file table tapes table′ tapes′ : List ℕ) (r : Sheet) (table-long
 
     table-read : take (2 * r .nodes) table′ ≡ tableOf file (nodesOf file)
     table-read =
-        ap (λ (l : List ℕ). take (2 * r .nodes) l) (S .table-after)
-        ∙ written (refusal file (length table) (length tapes)) (2 * r .nodes) (tableOf file (nodesOf file)) table taken
-        (pair-length 0 (nodesOf file) ∙ ap (λ (n : ℕ). 2 * n) (sym nodes-read))
+        ap (λ (l : List ℕ). take (2 * r .nodes) l) (S .table-after ∙ after-accepted _ (tableOf file (nodesOf file)) table taken)
+        ∙ take-overwrite (2 * r .nodes) (tableOf file (nodesOf file)) table (pair-length 0 (nodesOf file) ∙ ap (λ (n : ℕ). 2 * n) (sym nodes-read))
 
     tapes-read : take (2 * r .nodes) tapes′ ≡ tapesOf file (nodesOf file)
     tapes-read =
-        ap (λ (l : List ℕ). take (2 * r .nodes) l) (S .tapes-after)
-        ∙ written (refusal file (length table) (length tapes)) (2 * r .nodes) (tapesOf file (nodesOf file)) tapes taken
-        (pair-length 2 (nodesOf file) ∙ ap (λ (n : ℕ). 2 * n) (sym nodes-read))
+        ap (λ (l : List ℕ). take (2 * r .nodes) l) (S .tapes-after ∙ after-accepted _ (tapesOf file (nodesOf file)) tapes taken)
+        ∙ take-overwrite (2 * r .nodes) (tapesOf file (nodesOf file)) tapes (pair-length 2 (nodesOf file) ∙ ap (λ (n : ℕ). 2 * n) (sym nodes-read))
 
     same-text : tableText (r .separation) (take (2 * r .nodes) table′) (take (2 * r .nodes) tapes′) ≡ sheetText file
     unfolding sheetText

@@ -12,17 +12,17 @@ use mir.ValLaws.{toZ-ofZ}
 use lib.ListN.{length, take}
 use borrow.Author.Tests.{le-leb}
 use Rattle.refusal.specs.After.{granted}
+use Rattle.refusal.proofs.After.{granted-accepted, after-accepted, take-overwrite}
 use Rattle.tree.specs.Table.{nodes}
-use Rattle.tree.specs.Levels.{level, levelCount}
+use Rattle.tree.specs.Levels.{levelCount}
 use Rattle.tree.specs.WellFormed.{tableNumber}
 use Rattle.tree.proofs.Stands.{accepted-numbers, accepted-length}
-use Rattle.rule.specs.Result.{Slices, Answer, Layout, layoutNumber, place, placesOf, levelsOf, leastOf, greatestOf}
+use Rattle.rule.specs.Result.{Slices, Answer, Layout, layoutNumber, placesOf, levelsOf, leastOf, greatestOf}
 use Rattle.layout.proofs.Answers.{least-small, greatest-small, length-places, length-levels}
-use Rattle.sheet.specs.Read.{refusal}
 use Rattle.lines.specs.Listing.{listing, refusedLine}
 use Rattle.lines.specs.Printed.{mostNodes, refusalRoom, listingRoom, printable, when, Printed, ListingPrinted, RefusalPrinted}
 use Rattle.render.specs.Text.{textRoom, drawnListing, tableText}
-use Rattle.render.proofs.Numbers.{table-decides, written, text-refused, text-granted}
+use Rattle.render.proofs.Numbers.{table-decides, text-refused, text-granted}
 
 -- a text that is printed where a test holds
 shown : {test : Bool} {text wanted old new : List ℕ} {answer : ℕ} → test ≡ true → text ≡ wanted → Printed (when test text) old answer new
@@ -65,7 +65,7 @@ module _ (t : List ℕ) (D : ℕ) (some : 1 ≤ D) (small : D ≤ 1024) (tapes :
     well-formed = sym number-decided ∙ e
 
     given : {A : Type 0} {x : A} (y z : A) → x ≡ granted (layoutNumber t D s) y z → x ≡ y
-    given y z h = h ∙ ap (λ (k : ℕ). granted k y z) accepted
+    given y z h = h ∙ granted-accepted _ y z accepted
 
     nodes-given : a .nodes ≡ nodes t
     nodes-given = given (nodes t) 0 (L .nodes)
@@ -75,13 +75,13 @@ module _ (t : List ℕ) (D : ℕ) (some : 1 ≤ D) (small : D ≤ 1024) (tapes :
 
     levels-listed : take (a .nodes) (u .levels) ≡ levelsOf t
     levels-listed =
-        ap (λ (l : List ℕ). take (a .nodes) l) (L .levels)
-        ∙ written (layoutNumber t D s) (a .nodes) (levelsOf t) (s .levels) accepted (length-levels t ∙ sym nodes-given)
+        ap (λ (l : List ℕ). take (a .nodes) l) (L .levels ∙ after-accepted _ (levelsOf t) (s .levels) accepted)
+        ∙ take-overwrite (a .nodes) (levelsOf t) (s .levels) (length-levels t ∙ sym nodes-given)
 
     places-listed : take (a .nodes) (u .places) ≡ placesOf D t
     places-listed =
-        ap (λ (l : List ℤ). take (a .nodes) l) (L .places)
-        ∙ written (layoutNumber t D s) (a .nodes) (placesOf D t) (s .places) accepted (length-places D t ∙ sym nodes-given)
+        ap (λ (l : List ℤ). take (a .nodes) l) (L .places ∙ after-accepted _ (placesOf D t) (s .places) accepted)
+        ∙ take-overwrite (a .nodes) (placesOf D t) (s .places) (length-places D t ∙ sym nodes-given)
 
     same-listing : listing (a .nodes) (a .levels) D (a .least) (a .greatest) (take (a .nodes) (u .levels)) (take (a .nodes) (u .places)) tapes ≡ tableText D t tapes
     unfolding tableText drawnListing

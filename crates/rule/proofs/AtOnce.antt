@@ -16,7 +16,10 @@ use Rattle.rule.specs.AtOnce.{Joining, step, walkDown, joinAtOnce, drawO
 use Rattle.rule.proofs.Signed.{parts-add, parts-eq}
 use Rattle.tree.proofs.Joined.{Some}
 use Rattle.rule.proofs.Moving.{shiftBy, moveBy, rowDots-spread, alone-shift}
-use Rattle.rule.proofs.Spacing.{share-none, Falling, Row, alone-child, last-map, first-map, row-none, row-join, row-drawOnto}
+use Rattle.rule.proofs.Shares.{share-none}
+use Rattle.rule.proofs.LevelEnds.{last-map, first-map}
+use Rattle.rule.proofs.Walk.{Falling}
+use Rattle.rule.proofs.Spacing.{Row, alone-child, row-none, row-join, row-drawOnto}
 
 -- ---- lists
 

@@ -3,16 +3,23 @@
 use mathlib.Core.Path.{_≡_, refl, sym, ap, subst}
 use mathlib.Core.Logic.{_⊎_, inl, inr, ⊎-elim}
 use mathlib.Core.List.{List, [], _∷_}
-use Prim.Native.Nat.{ℕ, _+_, _≤_, _<_}
-use native.Mathlib.Nat.{le-refl, le-trans, eq-zero-or-pos}
+use Prim.Native.Nat.{ℕ, suc, _+_, _≤_, _<_}
+use native.Mathlib.Nat.{le-trans, eq-zero-or-pos}
 use native.Mathlib.Omega.{arith}
 use lib.IntN.{ℤ, pos, _+ℤ_, _-ℤ_}
 use Rattle.tree.specs.Levels.{beside}
 use Rattle.tree.proofs.Counting.{All}
+use Rattle.tree.proofs.Joined.{Some}
 use Rattle.rule.specs.Drawing.{Drawing, none, at, width, Dot, dot, dots, rowDots, firstOf, lastOf, leftContour, rightContour}
-use Rattle.rule.specs.Join.{Meeting, above0, shortfall, needed, meet, shares, total, start, alone, meetings}
+use Rattle.rule.specs.Join.{Meeting, above0, shortfall, meet, measure, shares, total, start, alone, meetings}
+use Rattle.rule.specs.Record.{pairCount}
 use Rattle.rule.proofs.Signed.{below0, one-part, parts-add, parts-sub, parts-eq}
-use Rattle.rule.proofs.Spacing.{share-none, shares-le, Falling, Row, owners}
+use Rattle.rule.proofs.PairCounts.{is-pair}
+use Rattle.rule.proofs.Shares.{shares-le}
+use Rattle.rule.proofs.LevelEnds.{first-mem, last-mem}
+use Rattle.rule.proofs.OnLevel.{OnLevel, top, down}
+use Rattle.rule.proofs.Walk.{Walking, met, walk-on, met-moves}
+use Rattle.rule.proofs.Spacing.{Row, row-walk}
 
 -- on some level that both have, the last dot of the one stays where it is, and the first of the other, moved by t, stands at D from it
 pub data Exact (D : ℕ) (m : ℕ → ℕ) (t : ℕ) : List (List Dot) → List (List Dot) → Type 0 where
@@ -25,37 +32,21 @@ shortfall-exact : (D : ℕ) (a b : ℤ) (moved t : ℕ) → 0 < shortfall D a (b
     → b +ℤ pos t ≡ a +ℤ pos D
 shortfall-exact D a b moved t h e =
     parts-eq (b +ℤ pos t) (a +ℤ pos D)
-    (⊎-elim (λ z. absurd (omega (arith, z, h)))
-    (λ z. omega (arith, z, e, parts-add a (pos D), parts-add b (pos moved), parts-sub (b +ℤ pos moved) a, parts-sub (pos D) (b +ℤ pos moved -ℤ a), parts-add b (pos t)))
+    (⊎-elim (λ z. absurd (omega arith))
+    (λ z. omega (arith, parts-add a (pos D), parts-add b (pos moved), parts-sub (b +ℤ pos moved) a, parts-sub (pos D) (b +ℤ pos moved -ℤ a), parts-add b (pos t)))
     (one-part (pos D -ℤ (b +ℤ pos moved -ℤ a))))
 
-pub meet-exact : (D j c moved : ℕ) (xs ys : List (List Dot)) (m : ℕ → ℕ) (t : ℕ) → Falling c xs → All (λ x. (lastOf x) .child ≤ j) xs
-    → ((p : ℕ) → p ≤ c → m p ≡ shares j (meet D moved (rightContour xs) (leftContour ys)) p)
-    → t ≡ moved + total (meet D moved (rightContour xs) (leftContour ys))
+walk-exact : {D j c moved : ℕ} (xs ys : List (List Dot)) {m : ℕ → ℕ} {t : ℕ} → Walking D j c moved xs ys m t
     → (total (meet D moved (rightContour xs) (leftContour ys)) ≡ 0) ⊎ Exact D m t xs ys
-meet-exact D j c moved [] ys m t f o hm ht = inl refl
-meet-exact D j c moved (x ∷ xs) [] m t f o hm ht = inl refl
-meet-exact D j c moved (x ∷ xs) (y ∷ ys) m t f o hm ht =
+walk-exact [] ys W = inl refl
+walk-exact (x ∷ xs) [] W = inl refl
+walk-exact {D} {moved = moved} (x ∷ xs) (y ∷ ys) {t = t} W =
     ⊎-elim (λ z.
     ⊎-elim (λ e. inl (omega arith))
-    (λ h. inr (exact
-    (omega (
-      arith,
-      hm ((lastOf x) .child) (f .0),
-      share-none j (record { child = (lastOf x) .child; amount = s }) ((lastOf x) .child) (le-refl _),
-      shares-le j (meet D (moved + s) (rightContour xs) (leftContour ys)) ((lastOf x) .child) (o .0),
-      z,
-    ))
-    (shortfall-exact D ((lastOf x) .place) ((firstOf y) .place) moved t h (omega (arith, ht, z)))))
-    (eq-zero-or-pos s))
+    (λ h. inr (exact (omega (arith, met-moves W)) (shortfall-exact D ((lastOf x) .place) ((firstOf y) .place) moved t h (omega arith))))
+    (eq-zero-or-pos (met D moved x y .amount)))
     (λ e. inr (lower e))
-    (meet-exact D j ((lastOf x) .child) (moved + s) xs ys m t (f .1) (o .1) further (omega (arith, ht)))
-  where
-    s : ℕ
-    s = shortfall (needed D ((lastOf x) .node) ((firstOf y) .node)) ((lastOf x) .place) ((firstOf y) .place +ℤ pos moved)
-
-    further : (p : ℕ) → p ≤ (lastOf x) .child → m p ≡ shares j (meet D (moved + s) (rightContour xs) (leftContour ys)) p
-    further p h = omega (arith, hm p (le-trans h (f .0)), share-none j (record { child = (lastOf x) .child; amount = s }) p h)
+    (walk-exact xs ys (walk-on W))
 
 -- ---- the top level: where nothing was too close, the child stands where it started
 
@@ -76,12 +67,12 @@ pub join-exact : (D u x : ℕ) (below after : Drawing) (v : ℕ) (new : Drawing)
 join-exact D u x below after v new R =
     ⊎-elim (λ z.
     let r = row-last D 0 v u x below after in
-    subst (λ (xs : List (List Dot)). Exact D (shares j ms) (total ms) xs (dots j (pos 0) (alone v (start D row v) new))) (sym (r .3))
-    (exact (omega (arith, shares-le j ms ((lastOf (r .0 ∷ r .1)) .child) (inside (r .0) (r .1) (r .2) (r .3)), z))
+    subst (λ (xs : List (List Dot)). Exact D (shares j ms) (total ms) xs ys) (sym (r .3))
+    (exact (omega (arith, shares-le j ms ((lastOf (r .0 ∷ r .1)) .child) (inside (r .0) (r .1) (r .2) (r .3))))
     (parts-eq (pos (0 + start D row v) +ℤ pos (total ms)) ((lastOf (r .0 ∷ r .1)) .place +ℤ pos D)
-    (omega (arith, z, ap above0 (r .4), ap below0 (r .4))))))
+    (omega (arith, ap above0 (r .4), ap below0 (r .4))))))
     (λ e. e)
-    (meet-exact D j j 0 (rowDots 0 row) (dots j (pos 0) (alone v (start D row v) new)) (shares j ms) (total ms) (R .falling) (owners D j (rowDots 0 row) R) (λ p h. refl) (omega arith))
+    (walk-exact (rowDots 0 row) ys walk)
   where
     row : Drawing
     row = at u x below after
@@ -92,5 +83,43 @@ join-exact D u x below after v new R =
     ms : List Meeting
     ms = meetings D row v new
 
+    ys : List (List Dot)
+    ys = dots j (pos 0) (alone v (start D row v) new)
+
+    walk : Walking D j j 0 (rowDots 0 row) ys (shares j ms) (total ms)
+    walk = row-walk (rowDots 0 row) ys R
+
     inside : (e : Dot) (l : List Dot) (ls : List (List Dot)) → rowDots 0 row ≡ (e ∷ l) ∷ ls → (lastOf (e ∷ l)) .child ≤ j
-    inside e l ls p = subst (All (λ x. (lastOf x) .child ≤ j)) p (owners D j (rowDots 0 row) R) .0
+    inside e l ls p = subst (All (λ x. (lastOf x) .child ≤ j)) p (walk .owned) .0
+
+-- ---- the two dots of an exact level
+
+-- the two dots of an exact level, which are measured
+pub record Measured (D : ℕ) (m : ℕ → ℕ) (t : ℕ) (xs ys : List (List Dot)) : Type 0 where
+  pub left : Dot
+  pub right : Dot
+  pub level : ℕ
+  pub on-row : OnLevel left level xs
+  pub on-child : OnLevel right level ys
+  pub stays : m (left .child) ≡ 0
+  pub exactly : right .place +ℤ pos t ≡ left .place +ℤ pos D
+  pub counted : 1 ≤ pairCount (left .node) (right .node) (measure (rightContour xs) (leftContour ys))
+
+pub exact-dots : (D : ℕ) (m : ℕ → ℕ) (t : ℕ) (xs ys : List (List Dot)) → All Some xs → All Some ys → Exact D m t xs ys → Measured D m t xs ys
+exact-dots D m t (x ∷ xs) (y ∷ ys) p q (exact z e) =
+    record { left = lastOf x; right = firstOf y; level = 0; on-row = top (last-mem x (p .0)); on-child = top (first-mem y (q .0)); stays = z; exactly = e; counted = here }
+  where
+    here : 1 ≤ pairCount ((lastOf x) .node) ((firstOf y) .node) (measure (rightContour (x ∷ xs)) (leftContour (y ∷ ys)))
+    here = omega (arith, is-pair ((lastOf x) .node) ((firstOf y) .node))
+exact-dots D m t (x ∷ xs) (y ∷ ys) p q (lower e) =
+    let M = exact-dots D m t xs ys (p .1) (q .1) e in
+    record {
+      left = M .left;
+      right = M .right;
+      level = suc (M .level);
+      on-row = down (M .on-row);
+      on-child = down (M .on-child);
+      stays = M .stays;
+      exactly = M .exactly;
+      counted = le-trans (M .counted) (omega arith);
+    }

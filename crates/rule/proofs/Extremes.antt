@@ -1,10 +1,10 @@
 -- The extremes of a table's drawing: the least and the greatest place bound every place, the root stands at 0 between them, and they lie at
 -- most n - 1 separations apart, so that every place and every difference of two places is small. Assumes nothing.
 use mathlib.Core.Path.{_≡_, refl, sym, ap, _∙_, subst, subst₂}
-use mathlib.Core.Logic.{_⊎_, ⊎-elim}
+use mathlib.Core.Logic.{⊎-elim}
 use mathlib.Core.Bool.{Bool, true, false, cond}
 use mathlib.Core.List.{List, [], _∷_, _++_, map, List·Memᴰ·head}
-use Prim.Native.Nat.{ℕ, zero, suc, _+_, _-_, _*_, _≤_, _<_}
+use Prim.Native.Nat.{ℕ, zero, suc, _-_, _*_, _≤_, _<_}
 use native.Mathlib.Nat.{not-suc-le-zero, mul-le-mul-left, mul-le-mul-right, le-trans}
 use native.Mathlib.Omega.{arith}
 use lib.IntN.{ℤ, pos, _+ℤ_, _-ℤ_}
@@ -13,7 +13,7 @@ use Rattle.tree.specs.Numbers.{upTo}
 use Rattle.tree.specs.Table.{nodes}
 use Rattle.tree.specs.Forest.{Forest, nil, node, treeOf, size, entry, siblings}
 use Rattle.tree.specs.WellFormed.{tableNumber}
-use Rattle.tree.proofs.Counting.{All}
+use Rattle.tree.proofs.Counting.{All, all-map, all-weaken}
 use Rattle.tree.proofs.Tests.{all-upTo, upTo-all}
 use Rattle.tree.proofs.Stands.{accepted-numbers, accepted-size}
 use Rattle.rule.specs.Drawing.{dot, dots}
@@ -21,8 +21,7 @@ use Rattle.rule.specs.Rule.{draw, drawn}
 use Rattle.rule.specs.Result.{place, placesOf, lesser, greater, leastOf, greatestOf}
 use Rattle.rule.proofs.Signed.{one-part, parts-add, parts-sub, parts-eq, parts-le, AtMost, leZ-true, leZ-false, mag-parts}
 use Rattle.tree.proofs.Joined.{Some, some}
-use Rattle.rule.proofs.Spacing.{all-map, all-weaken}
-use Rattle.rule.proofs.Within.{OnLevel, top}
+use Rattle.rule.proofs.OnLevel.{OnLevel, top}
 use Rattle.rule.proofs.Lookup.{dot-place}
 use Rattle.rule.proofs.Width.{span, narrow-draw}
 use Rattle.rule.proofs.Promises.{stands-at}
@@ -63,14 +62,14 @@ least-le [] = tt
 least-le (x ∷ []) = (omega arith, tt)
 least-le (x ∷ y ∷ l) =
     let h = lesser-le x (leastOf (y ∷ l)) in
-    (h .0, all-weaken (λ z. AtMost (leastOf (y ∷ l)) z) (λ z. AtMost (lesser x (leastOf (y ∷ l))) z) (λ z k. omega (arith, k, h .1)) (y ∷ l) (least-le (y ∷ l)))
+    (h .0, all-weaken (λ z. AtMost (leastOf (y ∷ l)) z) (λ z. AtMost (lesser x (leastOf (y ∷ l))) z) (λ z k. omega arith) (y ∷ l) (least-le (y ∷ l)))
 
 pub greatest-ge : (l : List ℤ) → All (λ x. AtMost x (greatestOf l)) l
 greatest-ge [] = tt
 greatest-ge (x ∷ []) = (omega arith, tt)
 greatest-ge (x ∷ y ∷ l) =
     let h = greater-ge x (greatestOf (y ∷ l)) in
-    (h .0, all-weaken (λ z. AtMost z (greatestOf (y ∷ l))) (λ z. AtMost z (greater x (greatestOf (y ∷ l)))) (λ z k. omega (arith, k, h .1)) (y ∷ l) (greatest-ge (y ∷ l)))
+    (h .0, all-weaken (λ z. AtMost z (greatestOf (y ∷ l))) (λ z. AtMost z (greater x (greatestOf (y ∷ l)))) (λ z k. omega arith) (y ∷ l) (greatest-ge (y ∷ l)))
 
 -- ---- a function over the numbers below n
 
@@ -104,7 +103,7 @@ module _ (D : ℕ) (t : List ℕ) (accepted : tableNumber t ≡ 0) where
   root-place = dot-place D t accepted (dot 0 0 (pos 0)) 0 (at-root (treeOf t) (accepted-numbers t accepted .root) (accepted-numbers t accepted .alone))
     where
       at-root : (f : Forest) → entry f ≡ 0 → siblings f ≡ nil → OnLevel (dot 0 0 (pos 0)) 0 (dots 0 (pos 0) (draw D f))
-      at-root nil e s = absurd (omega (arith, e))
+      at-root nil e s = absurd (omega arith)
       at-root (node v f nil) e s = top (List·Memᴰ·head (ap (λ (w : ℕ). dot 0 w (pos 0)) (sym e)))
       at-root (node v f (node w g h)) e s = absurd (omega (arith, ap size s))
 
@@ -148,14 +147,10 @@ module _ (D : ℕ) (t : List ℕ) (accepted : tableNumber t ≡ 0) where
 
   -- the whole drawing is at most n - 1 separations wide
   pub width-bound : greatestOf (placesOf D t) ≤ℤ (leastOf (placesOf D t) +ℤ pos ((nodes t - 1) * D))
-  unfolding placesOf
   width-bound =
-      subst (λ (w : ℕ). greatestOf (map (place D t) (upTo (nodes t))) ≤ℤ (leastOf (map (place D t) (upTo (nodes t))) +ℤ pos w)) (span-is (nodes t))
-      (parts-le _ _
-      (least-in (λ y. AtMost (greatestOf (map (place D t) (upTo (nodes t)))) (y +ℤ pos (span D (nodes t)))) (map (place D t) (upTo (nodes t))) (some-places (place D t) (nodes t) few)
-      (all-places (place D t) (λ y. AtMost (greatestOf (map (place D t) (upTo (nodes t)))) (y +ℤ pos (span D (nodes t)))) (nodes t)
-      (λ w hw. greatest-in (λ x. AtMost x (place D t w +ℤ pos (span D (nodes t)))) (map (place D t) (upTo (nodes t))) (some-places (place D t) (nodes t) few)
-      (all-places (place D t) (λ x. AtMost x (place D t w +ℤ pos (span D (nodes t)))) (nodes t) (λ v hv. places-near v w hv hw))))))
+      let g = greatest-met in
+      let l = least-met in
+      rw (← g .2, ← l .2, ← span-is (nodes t)) (parts-le _ _ (places-near (g .0) (l .0) (g .1) (l .1)))
     where
       span-is : (n : ℕ) → span D n ≡ (n - 1) * D
       span-is zero = omega arith
@@ -164,23 +159,18 @@ module _ (D : ℕ) (t : List ℕ) (accepted : tableNumber t ≡ 0) where
   -- every place, and every difference of two places, is at most 1,023 * 1,024 in size
   pub small-difference : D ≤ 1024 → (v w : ℕ) → v < nodes t → w < nodes t → mag (place D t v -ℤ place D t w) ≤ 1047552
   small-difference hD v w hv hw =
-      mag-parts (place D t v -ℤ place D t w) 1047552
-      (⊎-elim (λ z. omega (arith, z))
-      (λ z. omega (arith, z, wide, places-near v w hv hw, parts-sub (place D t v) (place D t w), parts-add (place D t w) (pos (span D (nodes t)))))
-      (one-part (place D t v -ℤ place D t w)))
-      (⊎-elim (λ z. omega (arith, z, wide, places-near w v hw hv, parts-sub (place D t v) (place D t w), parts-add (place D t v) (pos (span D (nodes t)))))
-      (λ z. omega (arith, z))
-      (one-part (place D t v -ℤ place D t w)))
+      let wide = bound (nodes t) (accepted-numbers t accepted .few) in
+      let difference = parts-sub (place D t v) (place D t w) in
+      let right = places-near v w hv hw in
+      let left = places-near w v hw hv in
+      let past-right = parts-add (place D t w) (pos (span D (nodes t))) in
+      let past-left = parts-add (place D t v) (pos (span D (nodes t))) in
+      let fits = mag-parts (place D t v -ℤ place D t w) 1047552 in
+      ⊎-elim (λ z. fits (omega arith) (omega arith)) (λ z. fits (omega arith) (omega arith)) (one-part (place D t v -ℤ place D t w))
     where
-      wide : span D (nodes t) ≤ 1047552
-      wide = bound (nodes t) (accepted-numbers t accepted .few)
-        where
-          bound : (n : ℕ) → n ≤ 1024 → span D n ≤ 1047552
-          bound zero h = omega arith
-          bound (suc n) h = le-trans (mul-le-mul-right D (n-small h)) (mul-le-mul-left 1023 hD)
-            where
-              n-small : suc n ≤ 1024 → n ≤ 1023
-              n-small h = omega arith
+      bound : (n : ℕ) → n ≤ 1024 → span D n ≤ 1047552
+      bound zero h = omega arith
+      bound (suc n) h = let small : n ≤ 1023 = omega arith in le-trans (mul-le-mul-right D small) (mul-le-mul-left 1023 hD)
 
   pub small-place : D ≤ 1024 → (v : ℕ) → v < nodes t → mag (place D t v) ≤ 1047552
   small-place hD v h =

@@ -1,9 +1,9 @@
 -- Where no number occurs twice, a node's place and level are those of its dot. Assumes nothing.
 use mathlib.Core.Path.{_≡_, refl, sym, ap, _∙_}
-use mathlib.Core.Logic.{_⊎_, ⊎-elim}
+use mathlib.Core.Logic.{⊎-elim}
 use mathlib.Core.Bool.{Bool, cond}
 use mathlib.Core.List.{List, [], _∷_, _++_, map, map-append, List·Memᴰ, List·Memᴰ·head, List·Memᴰ·tail, Memᴰ·append-left, Memᴰ·append-right}
-use Prim.Native.Nat.{ℕ, suc, _+_, _≤_}
+use Prim.Native.Nat.{ℕ, suc, _≤_}
 use native.Mathlib.Omega.{arith}
 use lib.IntN.{pos}
 use borrow.Author.Tests.{eq-eqb, ne-eqb}
@@ -21,7 +21,7 @@ use Rattle.rule.specs.Drawing.{Dot}
 use Rattle.rule.specs.Rule.{draw, drawn}
 use Rattle.rule.specs.Result.{placeIn, place}
 use Rattle.rule.proofs.Names.{names-draw, nodes-dots}
-use Rattle.rule.proofs.Within.{OnLevel, top, down}
+use Rattle.rule.proofs.OnLevel.{OnLevel, top, down}
 
 -- ---- one list of dots
 
@@ -37,8 +37,8 @@ place-here {e} (List·Memᴰ·head {x = x} {xs = xs} p) c =
     ap (λ (b : Bool). cond b (x .place) (placeIn xs (e .node))) (eq-eqb (e .node) (x .node) (ap (λ (d : Dot). d .node) p))
     ∙ sym (ap (λ (d : Dot). d .place) p)
 place-here {e} (List·Memᴰ·tail {x = x} {xs = xs} m) c =
-    ⊎-elim (λ s. absurd (omega (arith, c, s .1, in-count m)))
-    (λ s. ap (λ (b : Bool). cond b (x .place) (placeIn xs (e .node))) (ne-eqb (e .node) (x .node) (s .0)) ∙ place-here m (omega (arith, c, s .1)))
+    ⊎-elim (λ s. absurd (omega (arith, in-count m)))
+    (λ s. ap (λ (b : Bool). cond b (x .place) (placeIn xs (e .node))) (ne-eqb (e .node) (x .node) (s .0)) ∙ place-here m (omega arith))
     (is-cases (e .node) (x .node))
 
 -- ---- levels of dots
@@ -59,14 +59,13 @@ level-here {e} (top {x = x} {xs = xs} m) c =
 level-here {e} (down {x = x} {xs = xs} o) c =
     ⊎-elim (λ t. absurd (omega (
       arith,
-      c,
       count-append (e .node) (nodesOf x) (together (map nodesOf xs)),
       member-count (e .node) (nodesOf x) t,
       in-count (on-together o),
       ap (count (e .node)) (nodes-together xs),
     )))
     (λ f. ap (λ (b : Bool). cond b 0 (suc (levelIn (map nodesOf xs) (e .node)))) f
-    ∙ ap suc (level-here o (omega (arith, c, count-append (e .node) (nodesOf x) (together (map nodesOf xs))))))
+    ∙ ap suc (level-here o (omega (arith, count-append (e .node) (nodesOf x) (together (map nodesOf xs))))))
     (true-or-false (member (e .node) (nodesOf x)))
 
 -- ---- the drawing of an accepted table

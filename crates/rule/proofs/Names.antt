@@ -1,11 +1,10 @@
 -- The forest under a drawing: joining and moving leave it as it is, and the drawing's levels are the forest's. Assumes nothing.
 use mathlib.Core.Path.{_≡_, refl, sym, ap, ap₂, _∙_}
-use mathlib.Core.List.{List, [], _∷_, _++_, map, map-append}
+use mathlib.Core.List.{List, [], _∷_, map}
 use Prim.Native.Nat.{ℕ, _+_}
 use lib.IntN.{ℤ, pos}
 use Rattle.tree.specs.Forest.{Forest, nil, node, join as joinForest}
 use Rattle.tree.specs.Levels.{beside, levels}
-use Rattle.tree.proofs.Counting.{All}
 use Rattle.rule.specs.Drawing.{Drawing, none, at, append, dots, rowDots}
 use Rattle.rule.specs.Join.{Meeting, spread, join, meetings, settled}
 use Rattle.rule.specs.Rule.{drawOnto, draw}

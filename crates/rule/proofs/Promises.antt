@@ -1,21 +1,19 @@
 -- The promises of the written rule, for every accepted table and every separation. Assumes nothing.
 use mathlib.Core.Path.{_≡_, refl, sym, ap, _∙_, subst, subst₂}
-use mathlib.Core.Logic.{_⊎_, ⊎-elim}
-use mathlib.Core.Bool.{Bool, true, false, cond, _&&_}
-use mathlib.Core.List.{List, [], _∷_, _++_, map, List·Memᴰ, List·Memᴰ·head, List·Memᴰ·tail}
+use mathlib.Core.Logic.{⊎-elim}
+use mathlib.Core.Bool.{true}
+use mathlib.Core.List.{List, [], _∷_, map, List·Memᴰ, List·Memᴰ·head, List·Memᴰ·tail}
 use Prim.Native.Nat.{ℕ, suc, _+_, _≤_, _<_}
 use native.Mathlib.Omega.{arith}
-use lib.Dec.{eqb}
 use lib.IntN.{ℤ, pos, _+ℤ_, _-ℤ_}
 use lib.Signed.{_≤ℤ_}
-use lib.ListN.{length, length-append}
-use Rattle.tree.specs.Numbers.{is, count}
+use lib.ListN.{length}
 use Rattle.tree.specs.Table.{nodes, firstChild}
-use Rattle.tree.specs.Forest.{Forest, nil, node, forest, forestFrom, treeOf, preorder, size}
-use Rattle.tree.specs.Levels.{Pair, beside, levels, together, level, levelCount, sideBySide, neighbours}
+use Rattle.tree.specs.Forest.{Forest, node, forest, forestFrom, treeOf, preorder}
+use Rattle.tree.specs.Levels.{Pair, levels, level, levelCount, sideBySide, neighbours}
 use Rattle.tree.specs.Shape.{under, sameOrderedShape, correspondingUnder, corresponding}
 use Rattle.tree.specs.WellFormed.{tableNumber}
-use Rattle.tree.proofs.Counting.{All, all-append, all-left, sumOver, below-or-not, count-append, count-outside}
+use Rattle.tree.proofs.Counting.{All, all-append, all-left, all-weaken, sumOver, below-or-not, count-outside}
 use Rattle.tree.proofs.Linked.{read-back}
 use Rattle.tree.proofs.Parts.{Part, locate, part-agrees, part-below, part-size}
 use Rattle.tree.proofs.Stands.{accepted-numbers, accepted-size, accepted-agrees}
@@ -27,26 +25,19 @@ use Rattle.rule.specs.Result.{place}
 use Rattle.rule.proofs.Signed.{parts-add, parts-sub, parts-eq, parts-le}
 use Rattle.rule.proofs.Names.{names-draw}
 use Rattle.rule.proofs.Pairs.{pairs-record, pairsIn}
-use Rattle.rule.proofs.Spacing.{Spaced, all-weaken, row-child, row-drawOnto, row-none}
+use Rattle.rule.proofs.PairCounts.{pairCount-sum, length-sum, levels-once, levels-pairs, length-levels}
+use Rattle.rule.proofs.Spacing.{Spaced, row-child, row-drawOnto, row-none}
 use Rattle.rule.proofs.Shapes.{blank, blank-middle, same-drawing}
-use Rattle.rule.proofs.Within.{OnLevel, top, down, Stands, has-stands, has-draw, blank-alike, Match, alike-match}
+use Rattle.rule.proofs.OnLevel.{OnLevel, top, down}
+use Rattle.rule.proofs.Within.{Stands, has-stands, has-draw, blank-alike, Match, alike-match}
 use Rattle.rule.proofs.Lookup.{nodesOf, nodes-drawn, dot-place, dot-level}
-use Rattle.tree.proofs.Joined.{Some, some, levels-some}
+use Rattle.tree.proofs.Joined.{levels-some}
 
 -- ---- 1. the measured pairs are the neighbours
 
-pairCount-sum : (a b : ℕ) (l : List Pair) → pairCount a b l ≡ sumOver (isPair a b) l
-pairCount-sum a b [] = refl
-pairCount-sum a b (p ∷ l) = omega (arith, pairCount-sum a b l)
-
-length-sum : (l : List Pair) → length l ≡ sumOver (λ p. 1) l
-length-sum [] = refl
-length-sum (p ∷ l) = omega (arith, length-sum l)
-
 weighed : (w : Pair → ℕ) (D : ℕ) (t : List ℕ) → sumOver w (recorded D t) ≡ sumOver w (neighbours t)
 unfolding recorded neighbours
-weighed w D t =
-    omega (arith, pairs-record w D none (treeOf t), ap (λ (f : Forest). sumOver w (pairsIn (levels f))) (names-draw D (treeOf t)))
+weighed w D t = omega (arith, pairs-record w D none (treeOf t), ap (λ (f : Forest). sumOver w (pairsIn (levels f))) (names-draw D (treeOf t)))
 
 -- the measured pairs are the pairs of neighbours, each as often
 pub measured-neighbours : (D : ℕ) (t : List ℕ) → SamePairs (recorded D t) (neighbours t)
@@ -55,48 +46,6 @@ measured-neighbours D t =
       many = length-sum (recorded D t) ∙ weighed (λ p. 1) D t ∙ sym (length-sum (neighbours t));
       each = λ a b. pairCount-sum a b (recorded D t) ∙ weighed (isPair a b) D t ∙ sym (pairCount-sum a b (neighbours t));
     }
-
--- a pair on a level takes up one occurrence of its left node
-pair-le : (a b : ℕ) (p : Pair) → isPair a b p ≤ is a (p .0)
-pair-le a b p = go (eqb a (p .0)) (eqb b (p .1))
-  where
-    go : (x y : Bool) → cond (x && y) 1 0 ≤ cond {A = ℕ} x 1 0
-    go true true = omega arith
-    go true false = omega arith
-    go false y = omega arith
-
-level-once : (a b : ℕ) (l : List ℕ) → pairCount a b (sideBySide l) ≤ count a l
-level-once a b [] = omega arith
-level-once a b (x ∷ []) = omega arith
-level-once a b (x ∷ y ∷ l) = omega (arith, pair-le a b (x, y), level-once a b (y ∷ l))
-
-levels-once : (a b : ℕ) (ls : List (List ℕ)) → pairCount a b (pairsIn ls) ≤ count a (together ls)
-levels-once a b [] = omega arith
-levels-once a b (l ∷ ls) =
-    omega (arith, levels-once a b ls, level-once a b l, append (sideBySide l) (pairsIn ls), count-append a l (together ls))
-  where
-    append : (l m : List Pair) → pairCount a b (l ++ m) ≡ pairCount a b l + pairCount a b m
-    append [] m = omega arith
-    append (p ∷ l) m = omega (arith, append l m)
-
-level-pairs : (l : List ℕ) → Some l → length (sideBySide l) + 1 ≡ length l
-level-pairs (x ∷ []) h = refl
-level-pairs (x ∷ y ∷ l) h = omega (arith, level-pairs (y ∷ l) some)
-
-levels-pairs : (ls : List (List ℕ)) → All Some ls → length (pairsIn ls) + length ls ≡ length (together ls)
-levels-pairs [] a = refl
-levels-pairs (l ∷ ls) a =
-    omega (arith, levels-pairs ls (a .1), level-pairs l (a .0), length-append (sideBySide l) (pairsIn ls), length-append l (together ls))
-
-length-levels : (f : Forest) → length (together (levels f)) ≡ size f
-length-levels nil = refl
-length-levels (node v f g) = omega (arith, beside-length ((v ∷ []) ∷ levels f) (levels g), length-levels f, length-levels g)
-  where
-    beside-length : (xs ys : List (List ℕ)) → length (together (beside xs ys)) ≡ length (together xs) + length (together ys)
-    beside-length [] ys = omega arith
-    beside-length (x ∷ xs) [] = omega arith
-    beside-length (x ∷ xs) (y ∷ ys) =
-        omega (arith, beside-length xs ys, length-append x y, length-append (x ++ y) (together (beside xs ys)), length-append x (together xs), length-append y (together ys))
 
 module _ (t : List ℕ) (accepted : tableNumber t ≡ 0) where
   -- each pair of neighbours once
@@ -220,15 +169,11 @@ shapes-equal D t u ok ok′ v w hv hw same =
 
     root-place : place D u w ≡ place D t v +ℤ (S′ .place -ℤ S .place)
     root-place =
-        dot-place D u ok′ (dot 0 w (S′ .place)) (S′ .level) (S′ .root)
-        ∙ across (S .place) (S′ .place)
-        ∙ ap (λ (z : ℤ). z +ℤ (S′ .place -ℤ S .place)) (sym (dot-place D t ok (dot 0 v (S .place)) (S .level) (S .root)))
+        rw (dot-place D u ok′ (dot 0 w (S′ .place)) (S′ .level) (S′ .root), dot-place D t ok (dot 0 v (S .place)) (S .level) (S .root)) (across (S .place) (S′ .place))
 
     root-level : pos (level u w) ≡ pos (level t v) +ℤ (pos (S′ .level) -ℤ pos (S .level))
     root-level =
-        ap pos (dot-level D u ok′ (dot 0 w (S′ .place)) (S′ .level) (S′ .root))
-        ∙ across (pos (S .level)) (pos (S′ .level))
-        ∙ ap (λ (z : ℕ). pos z +ℤ (pos (S′ .level) -ℤ pos (S .level))) (sym (dot-level D t ok (dot 0 v (S .place)) (S .level) (S .root)))
+        rw (dot-level D u ok′ (dot 0 w (S′ .place)) (S′ .level) (S′ .root), dot-level D t ok (dot 0 v (S .place)) (S .level) (S .root)) (across (pos (S .level)) (pos (S′ .level)))
 
     moved : (d : ℤ) → q +ℤ d ≡ (o +ℤ d) +ℤ (S′ .place -ℤ S .place)
     moved d =
@@ -246,10 +191,11 @@ shapes-equal D t u ok ok′ v w hv hw same =
 
     below-place : (p : Pair) → Match 0 0 o q (dots 0 o b) (dots 0 q b′) p → place D u (p .1) ≡ place D t (p .0) +ℤ (S′ .place -ℤ S .place)
     below-place p M =
-        dot-place D u ok′ (dot 0 (p .1) (q +ℤ M .distance)) (suc (S′ .level + M .level)) (S′ .under _ (M .level) (M .right))
-        ∙ moved (M .distance)
-        ∙ ap (λ (z : ℤ). z +ℤ (S′ .place -ℤ S .place))
-        (sym (dot-place D t ok (dot 0 (p .0) (o +ℤ M .distance)) (suc (S .level + M .level)) (S .under _ (M .level) (M .left))))
+        rw (
+          dot-place D u ok′ (dot 0 (p .1) (q +ℤ M .distance)) (suc (S′ .level + M .level)) (S′ .under _ (M .level) (M .right)),
+          dot-place D t ok (dot 0 (p .0) (o +ℤ M .distance)) (suc (S .level + M .level)) (S .under _ (M .level) (M .left)),
+        )
+        (moved (M .distance))
 
     deeper : (r : ℕ) → pos (suc (S′ .level + r)) ≡ pos (suc (S .level + r)) +ℤ (pos (S′ .level) -ℤ pos (S .level))
     deeper r =
@@ -258,7 +204,8 @@ shapes-equal D t u ok ok′ v w hv hw same =
 
     below-level : (p : Pair) → Match 0 0 o q (dots 0 o b) (dots 0 q b′) p → pos (level u (p .1)) ≡ pos (level t (p .0)) +ℤ (pos (S′ .level) -ℤ pos (S .level))
     below-level p M =
-        ap pos (dot-level D u ok′ (dot 0 (p .1) (q +ℤ M .distance)) (suc (S′ .level + M .level)) (S′ .under _ (M .level) (M .right)))
-        ∙ deeper (M .level)
-        ∙ ap (λ (z : ℕ). pos z +ℤ (pos (S′ .level) -ℤ pos (S .level)))
-        (sym (dot-level D t ok (dot 0 (p .0) (o +ℤ M .distance)) (suc (S .level + M .level)) (S .under _ (M .level) (M .left))))
+        rw (
+          dot-level D u ok′ (dot 0 (p .1) (q +ℤ M .distance)) (suc (S′ .level + M .level)) (S′ .under _ (M .level) (M .right)),
+          dot-level D t ok (dot 0 (p .0) (o +ℤ M .distance)) (suc (S .level + M .level)) (S .under _ (M .level) (M .left)),
+        )
+        (deeper (M .level))

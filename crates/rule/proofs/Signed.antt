@@ -8,7 +8,7 @@ use Prim.Native.Nat.{ℕ, zero, suc, _+_, _-_, _≤_, _<_}
 use native.Mathlib.Omega.{arith}
 use lib.Dec.{T, ltb, leb→le, le→leb}
 use lib.IntN.{ℤ, pos, negsuc, natAbs, subℕ, _+ℤ_, _-ℤ_, negℤ}
-use lib.Signed.{_≤ℤ_, leZ, ltZ, mag}
+use lib.Signed.{_≤ℤ_, leZ, mag}
 use borrow.Author.Tests.{ltb-true, ltb-false, leb-true, leb-false}
 use Rattle.rule.specs.Join.{above0}
 
@@ -106,18 +106,6 @@ leZ-false (pos a) (pos b) e = omega (arith, leb-false a b e)
 leZ-false (pos a) (negsuc b) e = omega arith
 leZ-false (negsuc a) (pos b) e = absurd (subst T e tt)
 leZ-false (negsuc a) (negsuc b) e = omega (arith, leb-false b a e)
-
-pub ltZ-true : (x y : ℤ) → ltZ x y ≡ true → Under x y
-ltZ-true (pos a) (pos b) e = omega (arith, ltb-true a b e)
-ltZ-true (pos a) (negsuc b) e = absurd (subst T (sym e) tt)
-ltZ-true (negsuc a) (pos b) e = omega arith
-ltZ-true (negsuc a) (negsuc b) e = omega (arith, ltb-true b a e)
-
-pub ltZ-false : (x y : ℤ) → ltZ x y ≡ false → AtMost y x
-ltZ-false (pos a) (pos b) e = omega (arith, ltb-false a b e)
-ltZ-false (pos a) (negsuc b) e = omega arith
-ltZ-false (negsuc a) (pos b) e = absurd (subst T e tt)
-ltZ-false (negsuc a) (negsuc b) e = omega (arith, ltb-false b a e)
 
 -- ---- size
 

@@ -1,52 +1,22 @@
 -- Each level keeps tree order: of every two neighbours the right one stands at least the separation further right. Assumes nothing.
-use mathlib.Core.Path.{_≡_, refl, sym, ap, _∙_, subst, subst₂}
+use mathlib.Core.Path.{_≡_, refl, sym, ap, _∙_, subst₂}
 use mathlib.Core.List.{List, [], _∷_, _++_, map}
-use Prim.Native.Nat.{ℕ, suc, _+_, _-_, _*_, _/_, _≤_, _<_}
-use native.Mathlib.Nat.{mul-le-mul-right, div-mul-le-self, le-trans, le-refl, mul-comm}
+use Prim.Native.Nat.{ℕ, suc, _+_, _≤_, _<_}
+use native.Mathlib.Nat.{le-trans, le-refl}
 use native.Mathlib.Omega.{arith}
 use lib.IntN.{ℤ, pos, _+ℤ_, _-ℤ_}
 use Rattle.tree.specs.Forest.{Forest, nil, node}
 use Rattle.tree.specs.Levels.{beside}
-use Rattle.tree.proofs.Counting.{All, all-append}
-use Rattle.rule.specs.Drawing.{Drawing, none, width, middle, Dot, dots, rowDots, firstOf, lastOf, leftContour, rightContour}
-use Rattle.rule.specs.Join.{Meeting, shortfall, needed, meet, share, shares, total, start, alone, join, meetings}
-use Rattle.rule.specs.Rule.{drawOnto}
-use Rattle.rule.proofs.Signed.{parts-add, parts-sub, AtMost}
+use Rattle.tree.proofs.Counting.{All, all-append, all-weaken, all-map}
 use Rattle.tree.proofs.Joined.{Some, some, beside-some}
+use Rattle.rule.specs.Drawing.{Drawing, none, width, middle, Dot, dot, dots, rowDots, firstOf, lastOf, leftContour, rightContour}
+use Rattle.rule.specs.Join.{Meeting, meet, shares, total, start, alone, join, meetings}
+use Rattle.rule.specs.Rule.{drawOnto}
+use Rattle.rule.proofs.Signed.{parts-add, AtMost}
 use Rattle.rule.proofs.Moving.{shiftBy, moveBy, settle, rowDots-join, dots-row, width-join}
-
--- ---- shares
-
--- no share is more than the whole
-pub share-le : (j : ℕ) (m : Meeting) (p : ℕ) → p ≤ j → share j m p ≤ m .amount
-share-le j m p h =
-    le-trans (mul-le-mul-right (m .amount / (j - m .child)) fewer)
-    (le-trans (omega (arith, mul-comm (j - m .child) (m .amount / (j - m .child)))) (div-mul-le-self (m .amount) (j - m .child)))
-  where
-    fewer : p - m .child ≤ j - m .child
-    fewer = omega arith
-
-pub shares-le : (j : ℕ) (ms : List Meeting) (p : ℕ) → p ≤ j → shares j ms p ≤ total ms
-shares-le j [] p h = omega arith
-shares-le j (m ∷ ms) p h = omega (arith, share-le j m p h, shares-le j ms p h)
-
--- a child further right moves at least as far
-pub shares-mono : (j : ℕ) (ms : List Meeting) (p r : ℕ) → p ≤ r → shares j ms p ≤ shares j ms r
-shares-mono j [] p r h = omega arith
-shares-mono j (m ∷ ms) p r h = omega (arith, shares-mono j ms p r h, mul-le-mul-right (m .amount / (j - m .child)) further)
-  where
-    further : p - m .child ≤ r - m .child
-    further = omega arith
-
--- the child that is met, and those before it, do not move
-pub share-none : (j : ℕ) (m : Meeting) (p : ℕ) → p ≤ m .child → share j m p ≡ 0
-share-none j m p h = ap (λ (t : ℕ). t * (m .amount / (j - m .child))) stays ∙ zero-mul
-  where
-    stays : p - m .child ≡ 0
-    stays = omega arith
-
-    zero-mul : 0 * (m .amount / (j - m .child)) ≡ 0
-    zero-mul = omega arith
+use Rattle.rule.proofs.Shares.{shares-mono}
+use Rattle.rule.proofs.LevelEnds.{last-in, first-in, last-append, last-map, first-map}
+use Rattle.rule.proofs.Walk.{Falling, Seams, Walking, walk-seams}
 
 -- ---- levels whose dots keep their distance
 
@@ -64,93 +34,14 @@ pub spaced-append : (D : ℕ) (l m : List Dot) → Spaced D l → Spaced D m →
 spaced-append D (d ∷ []) (f ∷ m) s t sl sm g = (g, t)
 spaced-append D (d ∷ e ∷ l) m s t sl sm g = (s .0, spaced-append D (e ∷ l) m (s .1) t some sm g)
 
-gap-move : (D : ℕ) (m : ℕ → ℕ) → ((p r : ℕ) → p ≤ r → m p ≤ m r) → (d e : Dot) → Gap D d e → Gap D (moveBy m d) (moveBy m e)
-gap-move D m mono d e g =
+-- two dots that move, the right one at least as far
+gap-moved : {D : ℕ} {d e : Dot} (a b : ℤ) (i k : ℕ) → AtMost a b → i ≤ k → Gap D d e
+    → Gap D (dot i (d .node) (d .place +ℤ a)) (dot k (e .node) (e .place +ℤ b))
+gap-moved {D} {d} {e} a b i k further order g =
     record {
-      apart = omega (
-        arith,
-        g .apart,
-        mono (d .child) (e .child) (g .order),
-        parts-add (d .place) (pos D),
-        parts-add (d .place) (pos (m (d .child))),
-        parts-add (d .place +ℤ pos (m (d .child))) (pos D),
-        parts-add (e .place) (pos (m (e .child))),
-      );
-      order = g .order;
+      apart = omega (arith, parts-add (d .place) (pos D), parts-add (d .place) a, parts-add (d .place +ℤ a) (pos D), parts-add (e .place) b);
+      order = order;
     }
-
-pub spaced-move : (D : ℕ) (m : ℕ → ℕ) → ((p r : ℕ) → p ≤ r → m p ≤ m r) → (l : List Dot) → Spaced D l → Spaced D (map (moveBy m) l)
-spaced-move D m mono [] s = tt
-spaced-move D m mono (d ∷ []) s = tt
-spaced-move D m mono (d ∷ e ∷ l) s = (gap-move D m mono d e (s .0), spaced-move D m mono (e ∷ l) (s .1))
-
-gap-shift : (D : ℕ) (c : ℤ) (d e : Dot) → Gap D d e → Gap D (shiftBy c d) (shiftBy c e)
-gap-shift D c d e g =
-    record {
-      apart = omega (arith, g .apart, parts-add (d .place) (pos D), parts-add (d .place) c, parts-add (d .place +ℤ c) (pos D), parts-add (e .place) c);
-      order = g .order;
-    }
-
-pub spaced-shift : (D : ℕ) (c : ℤ) (l : List Dot) → Spaced D l → Spaced D (map (shiftBy c) l)
-spaced-shift D c [] s = tt
-spaced-shift D c (d ∷ []) s = tt
-spaced-shift D c (d ∷ e ∷ l) s = (gap-shift D c d e (s .0), spaced-shift D c (e ∷ l) (s .1))
-
--- ---- down the right contour the children are met from right to left
-
-abbrev pub Falling : ℕ → List (List Dot) → Type 0
-Falling c [] = Unit {0}
-Falling c (x ∷ xs) = ((lastOf x) .child ≤ c) × Falling ((lastOf x) .child) xs
-
--- ---- the walk
-
--- on every level that both have, the row's last dot, moved by m, keeps its distance from the new child's first dot, moved by t
-abbrev pub Seams : ℕ → (ℕ → ℕ) → ℕ → List (List Dot) → List (List Dot) → Type 0
-Seams D m t [] ys = Unit {0}
-Seams D m t (x ∷ xs) [] = Unit {0}
-Seams D m t (x ∷ xs) (y ∷ ys) =
-    AtMost ((lastOf x) .place +ℤ pos (m ((lastOf x) .child)) +ℤ pos D) ((firstOf y) .place +ℤ pos t) × Seams D m t xs ys
-
--- what a shortfall says: moved by it, the node on the right keeps its distance
-shortfall-enough : (D : ℕ) (a b : ℤ) (moved : ℕ) → AtMost (a +ℤ pos D) (b +ℤ pos (moved + shortfall D a (b +ℤ pos moved)))
-shortfall-enough D a b moved =
-    omega (
-      arith,
-      parts-add a (pos D),
-      parts-add b (pos moved),
-      parts-sub (b +ℤ pos moved) a,
-      parts-sub (pos D) (b +ℤ pos moved -ℤ a),
-      parts-add b (pos (moved + shortfall D a (b +ℤ pos moved))),
-    )
-
-pub meet-seams : (D j c moved : ℕ) (xs ys : List (List Dot)) (m : ℕ → ℕ) (t : ℕ) → Falling c xs → All (λ x. (lastOf x) .child ≤ j) xs
-    → ((p : ℕ) → p ≤ c → m p ≡ shares j (meet D moved (rightContour xs) (leftContour ys)) p)
-    → t ≡ moved + total (meet D moved (rightContour xs) (leftContour ys))
-    → Seams D m t xs ys
-meet-seams D j c moved [] ys m t f o hm ht = tt
-meet-seams D j c moved (x ∷ xs) [] m t f o hm ht = tt
-meet-seams D j c moved (x ∷ xs) (y ∷ ys) m t f o hm ht = (
-  omega (
-    arith,
-    shortfall-enough D ((lastOf x) .place) ((firstOf y) .place) moved,
-    ht,
-    hm ((lastOf x) .child) (f .0),
-    share-none j (record { child = (lastOf x) .child; amount = s }) ((lastOf x) .child) (le-refl _),
-    shares-le j (meet D (moved + s) (rightContour xs) (leftContour ys)) ((lastOf x) .child) (o .0),
-    parts-add ((lastOf x) .place) (pos D),
-    parts-add ((lastOf x) .place) (pos (m ((lastOf x) .child))),
-    parts-add ((lastOf x) .place +ℤ pos (m ((lastOf x) .child))) (pos D),
-    parts-add ((firstOf y) .place) (pos (moved + s)),
-    parts-add ((firstOf y) .place) (pos t),
-  ),
-  meet-seams D j ((lastOf x) .child) (moved + s) xs ys m t (f .1) (o .1) further (omega (arith, ht)),
-)
-  where
-    s : ℕ
-    s = shortfall (needed D ((lastOf x) .node) ((firstOf y) .node)) ((lastOf x) .place) ((firstOf y) .place +ℤ pos moved)
-
-    further : (p : ℕ) → p ≤ (lastOf x) .child → m p ≡ shares j (meet D (moved + s) (rightContour xs) (leftContour ys)) p
-    further p h = omega (arith, hm p (le-trans h (f .0)), share-none j (record { child = (lastOf x) .child; amount = s }) p h)
 
 -- ---- levels of a row of j children
 
@@ -172,28 +63,6 @@ Touch D [] ys = Unit {0}
 Touch D (x ∷ xs) [] = Unit {0}
 Touch D (x ∷ xs) (y ∷ ys) = Gap D (lastOf x) (firstOf y) × Touch D xs ys
 
-pub last-in : (P : Dot → Type 0) (l : List Dot) → Some l → All P l → P (lastOf l)
-last-in P (d ∷ []) s a = a .0
-last-in P (d ∷ e ∷ l) s a = last-in P (e ∷ l) some (a .1)
-
-pub first-in : (P : Dot → Type 0) (l : List Dot) → Some l → All P l → P (firstOf l)
-first-in P (d ∷ l) s a = a .0
-
-pub last-append : (l m : List Dot) → Some m → lastOf (l ++ m) ≡ lastOf m
-last-append [] m s = refl
-last-append (d ∷ []) (e ∷ m) s = refl
-last-append (d ∷ e ∷ l) m s = last-append (e ∷ l) m s
-
-pub last-map : (f : Dot → Dot) (l : List Dot) → Some l → lastOf (map f l) ≡ f (lastOf l)
-last-map f (d ∷ []) s = refl
-last-map f (d ∷ e ∷ l) s = last-map f (e ∷ l) some
-
-pub first-map : (f : Dot → Dot) (l : List Dot) → Some l → firstOf (map f l) ≡ f (firstOf l)
-first-map f (d ∷ l) s = refl
-
-some-map : {A B : Type 0} (f : A → B) (l : List A) → Some l → Some (map f l)
-some-map f (x ∷ l) s = some
-
 -- ---- a row beside a child
 
 falling-wider : {c d : ℕ} (xs : List (List Dot)) → c ≤ d → Falling c xs → Falling d xs
@@ -205,10 +74,6 @@ pub beside-all : (P : Dot → Type 0) (xs ys : List (List Dot)) → All (All P) 
 beside-all P [] ys a b = b
 beside-all P (x ∷ xs) [] a b = a
 beside-all P (x ∷ xs) (y ∷ ys) a b = (all-append P x y (a .0) (b .0), beside-all P xs ys (a .1) (b .1))
-
-pub all-weaken : {A : Type 0} (P Q : A → Type 0) → ((x : A) → P x → Q x) → (l : List A) → All P l → All Q l
-all-weaken P Q h [] a = tt
-all-weaken P Q h (x ∷ l) a = (h x (a .0), all-weaken P Q h l (a .1))
 
 pub levels-weaken : (P Q : Dot → Type 0) → ((e : Dot) → P e → Q e) → (xs : List (List Dot)) → All (All P) xs → All (All Q) xs
 levels-weaken P Q h = all-weaken (All P) (All Q) (all-weaken P Q h)
@@ -240,38 +105,56 @@ module _ (D j : ℕ) where
             (levels-weaken (λ e. e .child ≡ j) (λ e. e .child < suc j) (λ e h. omega arith) ys (C .tags));
       }
 
--- ---- a row moved, a child shifted
+-- ---- levels whose dots are moved, each two keeping their distance
 
-pub all-map : {A B : Type 0} (f : A → B) (P : A → Type 0) (Q : B → Type 0) → ((x : A) → P x → Q (f x)) → (l : List A) → All P l → All Q (map f l)
-all-map f P Q h [] a = tt
-all-map f P Q h (x ∷ l) a = (h x (a .0), all-map f P Q h l (a .1))
+module _ (D : ℕ) (g : Dot → Dot) (keeps : (d e : Dot) → Gap D d e → Gap D (g d) (g e)) where
+  some-moved : (xs : List (List Dot)) → All Some xs → All Some (map (map g) xs)
+  some-moved = all-map (map g) Some Some one
+    where
+      one : (x : List Dot) → Some x → Some (map g x)
+      one (e ∷ x) s = some
 
+  spaced-moved : (xs : List (List Dot)) → All (Spaced D) xs → All (Spaced D) (map (map g) xs)
+  spaced-moved = all-map (map g) (Spaced D) (Spaced D) one
+    where
+      one : (x : List Dot) → Spaced D x → Spaced D (map g x)
+      one [] s = tt
+      one (d ∷ []) s = tt
+      one (d ∷ e ∷ x) s = (keeps d e (s .0), one (e ∷ x) (s .1))
+
+  tags-moved : (P Q : Dot → Type 0) → ((e : Dot) → P e → Q (g e)) → (xs : List (List Dot)) → All (All P) xs → All (All Q) (map (map g) xs)
+  tags-moved P Q h = all-map (map g) (All P) (All Q) (all-map g P Q h)
+
+  child-moved : (P : Dot → Type 0) (j : ℕ) → ((e : Dot) → P e → (g e) .child ≡ j) → (xs : List (List Dot))
+      → All Some xs → All (Spaced D) xs → All (All P) xs → Child D j (map (map g) xs)
+  child-moved P j h xs s a t =
+      record { some = some-moved xs s; spaced = spaced-moved xs a; tags = tags-moved P (λ e. e .child ≡ j) h xs t }
+
+-- a row moved, a child shifted, and a row that is seen as the children of one node
 falling-move : (m : ℕ → ℕ) (c : ℕ) (xs : List (List Dot)) → All Some xs → Falling c xs → Falling c (map (map (moveBy m)) xs)
 falling-move m c [] s f = tt
-falling-move m c (x ∷ xs) s f =
-    let same : (lastOf (map (moveBy m) x)) .child ≡ (lastOf x) .child = ap (λ (e : Dot). e .child) (last-map (moveBy m) x (s .0)) in (
-      omega (arith, f .0),
-      subst (λ (k : ℕ). Falling k (map (map (moveBy m)) xs)) (sym same) (falling-move m ((lastOf x) .child) xs (s .1) (f .1)),
-    )
+falling-move m c (x ∷ xs) s f = rw (last-map (moveBy m) x (s .0)) (f .0, falling-move m ((lastOf x) .child) xs (s .1) (f .1))
 
-pub row-move : (D j : ℕ) (m : ℕ → ℕ) → ((p r : ℕ) → p ≤ r → m p ≤ m r) → (xs : List (List Dot)) → Row D j xs → Row D j (map (map (moveBy m)) xs)
+row-move : (D j : ℕ) (m : ℕ → ℕ) → ((p r : ℕ) → p ≤ r → m p ≤ m r) → (xs : List (List Dot)) → Row D j xs → Row D j (map (map (moveBy m)) xs)
 row-move D j m mono xs R =
     record {
-      some = all-map (map (moveBy m)) Some Some (λ x s. some-map (moveBy m) x s) xs (R .some);
-      spaced = all-map (map (moveBy m)) (Spaced D) (Spaced D) (λ x s. spaced-move D m mono x s) xs (R .spaced);
+      some = some-moved D (moveBy m) keeps xs (R .some);
+      spaced = spaced-moved D (moveBy m) keeps xs (R .spaced);
       falling = falling-move m j xs (R .some) (R .falling);
-      tags = all-map (map (moveBy m)) (All (λ e. e .child < j)) (All (λ e. e .child < j))
-          (λ x a. all-map (moveBy m) (λ e. e .child < j) (λ e. e .child < j) (λ e h. h) x a) xs (R .tags);
+      tags = tags-moved D (moveBy m) keeps (λ e. e .child < j) (λ e. e .child < j) (λ e h. h) xs (R .tags);
     }
+  where
+    keeps : (d e : Dot) → Gap D d e → Gap D (moveBy m d) (moveBy m e)
+    keeps d e g = gap-moved _ _ _ _ (omega (arith, mono (d .child) (e .child) (g .order))) (g .order) g
 
-pub child-shift : (D j : ℕ) (c : ℤ) (ys : List (List Dot)) → Child D j ys → Child D j (map (map (shiftBy c)) ys)
+child-shift : (D j : ℕ) (c : ℤ) (ys : List (List Dot)) → Child D j ys → Child D j (map (map (shiftBy c)) ys)
 child-shift D j c ys C =
-    record {
-      some = all-map (map (shiftBy c)) Some Some (λ x s. some-map (shiftBy c) x s) ys (C .some);
-      spaced = all-map (map (shiftBy c)) (Spaced D) (Spaced D) (λ x s. spaced-shift D c x s) ys (C .spaced);
-      tags = all-map (map (shiftBy c)) (All (λ e. e .child ≡ j)) (All (λ e. e .child ≡ j))
-          (λ x a. all-map (shiftBy c) (λ e. e .child ≡ j) (λ e. e .child ≡ j) (λ e h. h) x a) ys (C .tags);
-    }
+    child-moved D (shiftBy c) (λ d e g. gap-moved c c _ _ (le-refl _) (g .order) g) (λ e. e .child ≡ j) j (λ e h. h) ys (C .some) (C .spaced) (C .tags)
+
+pub row-child : (D i w : ℕ) (o : ℤ) (d : Drawing) → Row D w (rowDots 0 d) → Child D i (dots i o d)
+row-child D i w o d R =
+    rw (dots-row i 0 o d)
+    (child-moved D (settle i o) (λ d e g. gap-moved o o i i (le-refl _) (le-refl i) g) (λ e. e .child < w) i (λ e h. refl) (rowDots 0 d) (R .some) (R .spaced) (R .tags))
 
 pub seams-touch : (D j : ℕ) (m : ℕ → ℕ) (t : ℕ) (xs ys : List (List Dot)) → All Some xs → All Some ys
     → All (All (λ e. e .child < j)) xs → All (All (λ e. e .child ≡ j)) ys → Seams D m t xs ys
@@ -287,37 +170,15 @@ seams-touch D j m t (x ∷ xs) (y ∷ ys) p q a b s = (
   seams-touch D j m t xs ys (p .1) (q .1) (a .1) (b .1) (s .1),
 )
 
--- ---- a row that is seen as the children of one node
-
-settled-spaced : (D i : ℕ) (o : ℤ) (l : List Dot) → Spaced D l → Spaced D (map (settle i o) l)
-settled-spaced D i o [] s = tt
-settled-spaced D i o (d ∷ []) s = tt
-settled-spaced D i o (d ∷ e ∷ l) s = (
-  record {
-    apart = omega (arith, s .0 .apart, parts-add (d .place) (pos D), parts-add (d .place) o, parts-add (d .place +ℤ o) (pos D), parts-add (e .place) o);
-    order = le-refl i;
-  },
-  settled-spaced D i o (e ∷ l) (s .1),
-)
-
-pub row-child : (D i w : ℕ) (o : ℤ) (d : Drawing) → Row D w (rowDots 0 d) → Child D i (dots i o d)
-row-child D i w o d R =
-    subst (Child D i) (sym (dots-row i 0 o d))
-    (record {
-      some = all-map (map (settle i o)) Some Some (λ x s. some-map (settle i o) x s) (rowDots 0 d) (R .some);
-      spaced = all-map (map (settle i o)) (Spaced D) (Spaced D) (λ x s. settled-spaced D i o x s) (rowDots 0 d) (R .spaced);
-      tags = all-map (map (settle i o)) (All (λ e. e .child < w)) (All (λ e. e .child ≡ i))
-          (λ x a. all-map (settle i o) (λ e. e .child < w) (λ e. e .child ≡ i) (λ e h. refl) x a) (rowDots 0 d) (R .tags);
-    })
-
 pub alone-child : (D i w v x : ℕ) (below : Drawing) → Row D w (rowDots 0 below) → Child D i (dots i (pos 0) (alone v x below))
 alone-child D i w v x below R =
     let C = row-child D i w (pos (0 + x) -ℤ pos (middle below)) below R in
     record { some = (some, C .some); spaced = (tt, C .spaced); tags = ((refl, tt), C .tags) }
 
--- the children met belong to the row
-pub owners : (D j : ℕ) (xs : List (List Dot)) → Row D j xs → All (λ x. (lastOf x) .child ≤ j) xs
-owners D j xs R = each xs (R .some) (R .tags)
+-- the walk down a row and a new child, from the first level on
+pub row-walk : {D j : ℕ} (xs ys : List (List Dot)) → Row D j xs
+    → Walking D j j 0 xs ys (shares j (meet D 0 (rightContour xs) (leftContour ys))) (total (meet D 0 (rightContour xs) (leftContour ys)))
+row-walk {D} {j} xs ys R = record { falling = R .falling; owned = each xs (R .some) (R .tags); moves = λ p h. refl; whole = omega arith }
   where
     each : (xs : List (List Dot)) → All Some xs → All (All (λ e. e .child < j)) xs → All (λ x. (lastOf x) .child ≤ j) xs
     each [] s a = tt
@@ -331,8 +192,7 @@ row-join D row v below R B =
     subst₂ (Row D) (sym (width-join D row v below)) (sym (rowDots-join D row v below))
     (row-beside D j (map (map (moveBy m)) xs) (map (map (shiftBy (pos (total ms)))) ys)
     (row-move D j m (shares-mono j ms) xs R) (child-shift D j (pos (total ms)) ys C)
-    (seams-touch D j m (total ms) xs ys (R .some) (C .some) (R .tags) (C .tags)
-    (meet-seams D j j 0 xs ys m (total ms) (R .falling) (owners D j xs R) (λ p h. refl) (omega arith))))
+    (seams-touch D j m (total ms) xs ys (R .some) (C .some) (R .tags) (C .tags) (walk-seams xs ys (row-walk xs ys R))))
   where
     j : ℕ
     j = width row

@@ -1,7 +1,7 @@
 -- No slack at the last child: at every node with two or more children, some pair of neighbours, the right one in the last child's subtree
 -- and the left one in an earlier child's, stands exactly at the separation. Assumes nothing.
 use mathlib.Core.Path.{_≡_, refl, sym, ap, _∙_, subst}
-use mathlib.Core.List.{List, [], _∷_, _++_, map, List·Memᴰ, List·Memᴰ·head, List·Memᴰ·tail}
+use mathlib.Core.List.{List, _++_, map}
 use Prim.Native.Nat.{ℕ, suc, _+_, _≤_, _<_}
 use native.Mathlib.Omega.{arith}
 use lib.ListN.{length}
@@ -9,7 +9,7 @@ use lib.IntN.{ℤ, pos, _+ℤ_, _-ℤ_}
 use Rattle.tree.specs.Numbers.{count}
 use Rattle.tree.specs.Table.{nodes}
 use Rattle.tree.specs.Forest.{Forest, nil, node, join as joinForest, treeOf, preorder, roots, size}
-use Rattle.tree.specs.Levels.{Pair, beside, levels, together, neighbours}
+use Rattle.tree.specs.Levels.{beside, levels, together, neighbours}
 use Rattle.tree.specs.Shape.{under}
 use Rattle.tree.specs.WellFormed.{tableNumber}
 use Rattle.tree.proofs.Parts.{Part, whole, in-children, in-siblings}
@@ -20,13 +20,14 @@ use Rattle.rule.specs.Rule.{drawOnto, draw, drawn, recordOnto, recorded}
 use Rattle.rule.specs.Record.{pairCount}
 use Rattle.rule.specs.Result.{place}
 use Rattle.rule.proofs.Signed.{below0, parts-add, parts-eq}
+use Rattle.rule.proofs.PairCounts.{pairCount-append}
 use Rattle.rule.proofs.Names.{names, names-draw, nodes-dots, nodes-rowDots}
 use Rattle.rule.proofs.Moving.{shiftBy, moveBy, settle, rowDots-join, dots-row}
 use Rattle.rule.proofs.Spacing.{Row, Child, row-drawOnto, row-none, alone-child}
-use Rattle.rule.proofs.Within.{OnLevel, top, down, on-left, on-right, Stands}
+use Rattle.rule.proofs.Within.{Stands}
 use Rattle.rule.proofs.Lookup.{nodesOf, on-together, nodes-together, in-count, dot-place}
-use Rattle.rule.proofs.Exact.{join-exact}
-use Rattle.rule.proofs.Width.{Measured, exact-dots}
+use Rattle.rule.proofs.OnLevel.{OnLevel, on-left, on-right, on-move}
+use Rattle.rule.proofs.Exact.{Measured, exact-dots, join-exact}
 use Rattle.rule.proofs.Promises.{measured-neighbours, stands-at, part-at}
 
 -- ---- one forest behind another is drawn one after the other
@@ -36,10 +37,6 @@ drawOnto-join D row nil g = refl
 drawOnto-join D row (node v f h) g = drawOnto-join D (join D row v (drawOnto D none f)) h g
 
 -- ---- pairs that a part of the forest measures are measured
-
-pairCount-append : (a b : ℕ) (l m : List Pair) → pairCount a b (l ++ m) ≡ pairCount a b l + pairCount a b m
-pairCount-append a b [] m = omega arith
-pairCount-append a b (p ∷ l) m = omega (arith, pairCount-append a b l m)
 
 record-join : (a b D : ℕ) (row : Drawing) (f g : Forest)
     → pairCount a b (recordOnto D row (joinForest f g)) ≡ pairCount a b (recordOnto D row f) + pairCount a b (recordOnto D (drawOnto D row f) g)
@@ -98,15 +95,6 @@ two-or-more (node v f nil) h = absurd (omega arith)
 two-or-more (node v f (node w g k)) h = last-of v w f g k
 
 -- ---- the exact pair
-
--- dots of levels that were moved
-mem-move : {e : Dot} (f : Dot → Dot) (l : List Dot) → List·Memᴰ e l → List·Memᴰ (f e) (map f l)
-mem-move f (x ∷ l) (List·Memᴰ·head p) = List·Memᴰ·head (ap f p)
-mem-move f (x ∷ l) (List·Memᴰ·tail m) = List·Memᴰ·tail (mem-move f l m)
-
-on-move : {e : Dot} {l : ℕ} (f : Dot → Dot) (xs : List (List Dot)) → OnLevel e l xs → OnLevel (f e) l (map (map f) xs)
-on-move f (x ∷ xs) (top m) = top (mem-move f x m)
-on-move f (x ∷ xs) (down o) = down (on-move f xs o)
 
 -- a node on the levels of a drawing is a node of its forest
 pub on-names : (d : Drawing) (ls : List (List Dot)) → map nodesOf ls ≡ levels (names d) → (e : Dot) (l : ℕ) → OnLevel e l ls → 1 ≤ count (e .node) (preorder (names d))

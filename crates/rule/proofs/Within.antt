@@ -1,20 +1,19 @@
 -- A drawing within a drawing: what is drawn below a node stays as it was drawn, and its dots stand on the levels below that node, moved as
 -- one piece. Assumes nothing.
 use mathlib.Core.Path.{_≡_, refl, sym, ap, ap₂, _∙_, subst}
-use mathlib.Core.List.{List, [], _∷_, List·Memᴰ, List·Memᴰ·head, Memᴰ·append-left, Memᴰ·append-right}
+use mathlib.Core.List.{List, [], _∷_, List·Memᴰ·head}
 use Prim.Native.Nat.{ℕ, suc, _+_}
 use native.Mathlib.Nat.{zero-add, suc-add}
 use native.Mathlib.Omega.{arith}
 use lib.IntN.{ℤ, pos, _+ℤ_, _-ℤ_}
 use Rattle.tree.specs.Forest.{Forest, nil, node}
-use Rattle.tree.specs.Levels.{beside}
 use Rattle.tree.proofs.Parts.{Part, whole, in-children, in-siblings}
 use Rattle.tree.specs.Levels.{Pair}
 use Rattle.tree.specs.Shape.{corresponding}
-use Rattle.tree.proofs.Counting.{All, all-append}
+use Rattle.tree.proofs.Counting.{All, all-append, all-weaken}
 use Rattle.rule.proofs.Signed.{parts-add, parts-sub, parts-eq}
 use Rattle.rule.proofs.Names.{names}
-use Rattle.rule.proofs.Spacing.{all-weaken}
+use Rattle.rule.proofs.OnLevel.{OnLevel, top, down, on-left, on-right}
 use Rattle.rule.proofs.Shapes.{blank, blank-middle}
 use Rattle.rule.specs.Drawing.{Drawing, none, at, width, append, firstPlace, middle, Dot, dot, dots}
 use Rattle.rule.specs.Join.{Meeting, spread, alone, join, meetings, settled}
@@ -54,23 +53,6 @@ has-draw D row {v} {a} {b} whole =
 has-draw D row {v} {a} (in-children {v = u} {f = f} {h = g} p) =
     has-drawOnto D g (has-right (spread (width row) (meetings D row u (draw D f)) 0 row) (below (has-draw D none p)))
 has-draw D row (in-siblings {v = u} {f = f} {h = g} p) = has-draw D (join D row u (draw D f)) p
-
--- ---- a dot on a level
-
-pub data OnLevel (e : Dot) : ℕ → List (List Dot) → Type 0 where
-  top : {x : List Dot} {xs : List (List Dot)} → List·Memᴰ e x → OnLevel e 0 (x ∷ xs)
-  down : {l : ℕ} {x : List Dot} {xs : List (List Dot)} → OnLevel e l xs → OnLevel e (suc l) (x ∷ xs)
-
-pub on-left : {e : Dot} {l : ℕ} {xs : List (List Dot)} (ys : List (List Dot)) → OnLevel e l xs → OnLevel e l (beside xs ys)
-on-left [] (top m) = top m
-on-left (y ∷ ys) (top m) = top (Memᴰ·append-left y m)
-on-left [] (down o) = down o
-on-left (y ∷ ys) (down o) = down (on-left ys o)
-
-pub on-right : {e : Dot} {l : ℕ} (xs : List (List Dot)) {ys : List (List Dot)} → OnLevel e l ys → OnLevel e l (beside xs ys)
-on-right [] o = o
-on-right (x ∷ xs) (top m) = top (Memᴰ·append-right x m)
-on-right (x ∷ xs) (down o) = down (on-right xs o)
 
 -- node v stands at place x on level l, and what is drawn below it stands on the levels below, its count starting at x less the middle
 pub record Stands (i v : ℕ) (b : Drawing) (ls : List (List Dot)) : Type 0 where

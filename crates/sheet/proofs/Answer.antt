@@ -9,7 +9,7 @@ use lib.Dec.{eqb, ltb, leb}
 use lib.ListN.{length}
 use borrow.Author.Tests.{ltb-false, le-ltb, leb-true, eqb-true, not-false}
 use Rattle.refusal.specs.First.{Condition, _⇐_, first}
-use Rattle.refusal.specs.After.{after}
+use Rattle.refusal.proofs.After.{granted-refused, after-accepted, after-refused}
 use Rattle.refusal.proofs.Laws.{first-refused, first-passed, first-none, none-first}
 use Rattle.refusal.proofs.Truth.{or-false-left, or-false-right, or-false, and-left, and-right}
 use Rattle.sheet.specs.Block.{blockBytes, blockCount, blockAt, sound, inPlace}
@@ -77,9 +77,9 @@ file-decides file tableLength tapesLength table tapes = go (fileNumber file) ref
         let most = readable file e .nodes-most in
         first-passed (fileConditions file) room (first-none (fileConditions file) (omega arith) e)
         ∙ ap (λ (b : Bool). cond b 7 0)
-        (or-false (le-ltb tableLength (2 * nodesOf file) (omega (arith, most))) (le-ltb tapesLength (2 * nodesOf file) (omega (arith, most))))
+        (or-false (le-ltb tableLength (2 * nodesOf file) (omega arith)) (le-ltb tapesLength (2 * nodesOf file) (omega arith)))
         ∙ sym e
-    go (suc k) e = first-refused (fileConditions file) room (λ z. omega (arith, e, z))
+    go (suc k) e = first-refused (fileConditions file) room (λ z. omega arith)
 
 -- what is known of an accepted file and of the slices
 pub record Accepted (file : List ℕ) (tableLength tapesLength : ℕ) : Type 0 where
@@ -101,25 +101,24 @@ accepted file t s e =
 module _ (file table tapes : List ℕ) where
   pub refused-read : (number : ℕ) → (number ≡ 0 → ⊥) → number ≡ refusal file (length table) (length tapes)
       → SheetRead file table tapes (record { number = number; nodes = 0; separation = 0 }) table tapes
-  unfolding after
-  refused-read zero h e = absurd (h refl)
-  refused-read (suc k) h e = record {
-    number = e;
-    nodes = rw (← e);
-    separation = rw (← e);
-    table-after = rw (← e);
-    tapes-after = rw (← e);
-  }
+  refused-read number h e =
+      let refused : refusal file (length table) (length tapes) ≡ 0 → ⊥ = rw (← e) h in
+      record {
+        number = e;
+        nodes = rw granted-refused;
+        separation = rw granted-refused;
+        table-after = rw after-refused;
+        tapes-after = rw after-refused;
+      }
 
   pub accepted-read : (nodes separation : ℕ) (table′ tapes′ : List ℕ) → refusal file (length table) (length tapes) ≡ 0 → nodes ≡ nodesOf file
       → separation ≡ separationOf file
       → RowsRead file nodes table tapes table′ tapes′
       → SheetRead file table tapes (record { number = 0; nodes = nodes; separation = separation }) table′ tapes′
-  unfolding after
   accepted-read nodes separation table′ tapes′ e isNodes isSeparation rows = record {
     number = sym e;
     nodes = rw e isNodes;
     separation = rw e isSeparation;
-    table-after = rw (e, ← isNodes) (rows .table-after);
-    tapes-after = rw (e, ← isNodes) (rows .tapes-after);
+    table-after = rw (after-accepted, ← isNodes) (rows .table-after);
+    tapes-after = rw (after-accepted, ← isNodes) (rows .tapes-after);
   }

@@ -51,8 +51,8 @@ module _ (n separation : ℕ) (table tapes : List ℕ) (held : Contents n separa
 
   content-below : (b : ℕ) → EachBelow wordLimit (content n separation table tapes b)
   unfolding content
-  content-below zero zero = omega (arith, held .nodes-most)
-  content-below zero (suc zero) = omega (arith, held .separation-most)
+  content-below zero zero = omega arith
+  content-below zero (suc zero) = omega arith
   content-below zero (suc (suc i)) = omega arith
   content-below (suc b) i = joined-below wordLimit (omega arith) (rowsIn n b) _ (λ k l. row-below (blockRows * b + k)) i
 
@@ -62,7 +62,7 @@ module _ (n separation : ℕ) (table tapes : List ℕ) (held : Contents n separa
   count-below (suc b) = omega arith
 
   body-below : (b : ℕ) → b < blocksFor n → EachBelow wordLimit (b ∷ countWord n b ∷ content n separation table tapes b)
-  body-below b l zero = omega (arith, held .nodes-most)
+  body-below b l zero = omega arith
   body-below b l (suc zero) = count-below b
   body-below b l (suc (suc i)) = content-below b i
 

@@ -49,10 +49,10 @@ block-below file b fits i =
     let past = List·getD-eq-default (take blockBytes (drop (blockBytes * b) file)) 0 {n = i}
     (omega (arith, length-take blockBytes (drop (blockBytes * b) file)))
     in
-    omega (arith, past))
+    omega arith)
     (λ l.
     let same = getD-take blockBytes (drop (blockBytes * b) file) i 0 l ∙ getD-drop (blockBytes * b) file i 0 in
-    omega (arith, same, fits (blockBytes * b + i)))
+    omega (arith, fits (blockBytes * b + i)))
 
 module _ (file : List ℕ) (tableLength tapesLength : ℕ) (held : Accepted file tableLength tapesLength) where
   abbrev n : ℕ
@@ -82,7 +82,7 @@ module _ (file : List ℕ) (tableLength tapesLength : ℕ) (held : Accepted file
 
   module _ (fits : EachBelow 256 file) (b : ℕ) (l : b < blocksFor n) where
     there : b < blockCount file
-    there = omega (arith, held .file-sound .blocks)
+    there = omega arith
 
     body-word : (k : ℕ) → k < closingPlace → getD (body b) k 0 ≡ wordAt (blockAt file b) k
     unfolding inPlace
@@ -115,7 +115,7 @@ module _ (file : List ℕ) (tableLength tapesLength : ℕ) (held : Accepted file
     block-again =
         let words : List ℕ = blockOf n (separationOf file) (tableOf file n) (tapesOf file n) b in
         let size : length words ≡ blockWords = length-closed (body b) (body-fits n (separationOf file) (tableOf file n) (tapesOf file n) b) in
-        let whole : length (blockAt file b) ≡ blockBytes = length-block file b (omega (arith, held .file-sound .blocks)) in
+        let whole : length (blockAt file b) ≡ blockBytes = length-block file b (omega arith) in
         bytes-words words (blockAt file b) (omega arith) (block-below file b fits) (λ k m. block-word k (lt-of-lt-of-le m (le-of-eq size)))
 
   rewritten : EachBelow 256 file → fileOf n (separationOf file) (tableOf file n) (tapesOf file n) ≡ file

@@ -6,7 +6,8 @@ use mathlib.Core.Bool.{Bool, true, false, not}
 use mathlib.Core.List.{List}
 use lib.ListN.{length}
 use borrow.Author.Tests.{eq-eqb, le-ltb, le-leb}
-use Rattle.refusal.specs.After.{overwrite, after}
+use Rattle.refusal.specs.After.{overwrite}
+use Rattle.refusal.proofs.After.{after-accepted}
 use Rattle.sheet.specs.Block.{blockBytes, blockCount, blockAt, sound, inPlace}
 use Rattle.sheet.specs.Layout.{mostNodes, mostSeparation, blocksFor, laidOut}
 use Rattle.sheet.specs.Read.{nodesOf, separationOf, tableOf, tapesOf, someBlockFails, lengthWrong, checkWrong, placeWrong, layoutWrong, roomWrong, refusal, SheetRead}
@@ -35,8 +36,8 @@ module _ (n separation : ℕ) (table tapes : List ℕ) (held : Contents n separa
   length-right =
       let size = length-file n separation table tapes in
       let multiple : length file % blockBytes ≡ 0 = omega arith in
-      let least : blockBytes * 2 ≤ length file = omega (arith, held .nodes-least) in
-      let most : length file ≤ blockBytes * blocksFor mostNodes = omega (arith, held .nodes-most) in
+      let least : blockBytes * 2 ≤ length file = omega arith in
+      let most : length file ≤ blockBytes * blocksFor mostNodes = omega arith in
       rw (eq-eqb _ _ multiple, le-ltb _ _ least, le-ltb _ _ most)
 
   -- what holds of each block of the file
@@ -92,13 +93,12 @@ module _ (n separation : ℕ) (table tapes : List ℕ) (held : Contents n separa
   pub read-written : (old-table old-tapes table′ tapes′ : List ℕ) (answer : Sheet) → 2 * n ≤ length old-table → 2 * n ≤ length old-tapes
       → SheetRead file old-table old-tapes answer table′ tapes′
       → (answer ≡ record { number = 0; nodes = n; separation = separation }) × (table′ ≡ overwrite table old-table) × (tapes′ ≡ overwrite tapes old-tapes)
-  unfolding after
   read-written old-table old-tapes table′ tapes′ answer t s read =
       let zero-number = accepted (length old-table) (length old-tapes) t s in
       let number : answer .number ≡ 0 = read .number ∙ zero-number in
       let nodes : answer .nodes ≡ n = read .nodes ∙ rw zero-number nodes-back in
       let separated : answer .separation ≡ separation = read .separation ∙ rw zero-number separation-back in (
         (λ i. record { number = number i; nodes = nodes i; separation = separated i }),
-        read .table-after ∙ rw (zero-number, nodes-back, table-back),
-        read .tapes-after ∙ rw (zero-number, nodes-back, tapes-back),
+        read .table-after ∙ rw (after-accepted, nodes-back, table-back),
+        read .tapes-after ∙ rw (after-accepted, nodes-back, tapes-back),
       )

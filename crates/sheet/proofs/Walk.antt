@@ -1,42 +1,21 @@
 -- The row walk: a pair stored behind the pairs of the rows before it gives those of one row more, and the rows of a block behind
 -- those of the nodes before them give those of the block's nodes too. Assumes nothing.
 use mathlib.Core.Path.{_≡_, refl, sym, ap, ap₂, _∙_}
-use Prim.Native.Nat.{ℕ, suc, _+_, _-_, _*_, min, _≤_, _<_}
+use Prim.Native.Nat.{ℕ, _+_, _-_, _*_, min, _≤_, _<_}
 use native.Mathlib.Nat.{lt-of-lt-of-le, le-of-eq}
 use native.Mathlib.Omega.{arith}
-use mathlib.Core.List.{List, [], _∷_, _++_, append-assoc, append-nil}
-use lib.ListN.{length, getD, take, drop, set, length-append, length-drop, drop-of-length-le}
-use lib.Seq.{drop-cons, drop-drop, take-all, take-at, drop-at, length-take-le, set-at, append-snoc}
+use mathlib.Core.List.{List, [], _++_, append-assoc, append-nil}
+use lib.ListN.{length, take, drop, length-append, length-drop, drop-of-length-le}
+use lib.Seq.{drop-drop, take-all, take-at, drop-at, length-take-le}
 use borrow.Rule.Slice.PartMut.{midOf, putMid}
 use Rattle.refusal.specs.After.{overwrite}
+use Rattle.refusal.proofs.After.{length-overwrite, store-two}
 use Rattle.sheet.specs.Below.{joined}
 use Rattle.sheet.specs.Block.{wordAt, blockAt}
 use Rattle.sheet.specs.Layout.{blockRows, rowWord, nodeBlock, nodeWord, rowsIn}
 use Rattle.sheet.specs.Read.{nodePair}
 use Rattle.sheet.specs.Steps.{rowPair, storePair}
 use Rattle.sheet.proofs.Below.{joined-more, joined-add, joined-cong, length-joined}
-
--- entries that are overwritten stay as many
-pub length-overwrite : (new old : List ℕ) → length new ≤ length old → length (overwrite new old) ≡ length old
-unfolding overwrite
-length-overwrite new old h = omega (arith, length-append new (drop (length new) old), length-drop (length new) old)
-
--- an entry stored behind the new ones is one more of them
-pub store-one : (new old : List ℕ) (i x : ℕ) → length new ≡ i → i < length old → set (overwrite new old) i x ≡ overwrite (new ++ x ∷ []) old
-unfolding overwrite
-store-one new old i x size room =
-    let one-more : length (new ++ x ∷ []) ≡ suc i = omega (arith, length-append new (x ∷ [])) in
-    rw (one-more, size, drop-cons old i 0 room, set-at new (getD old i 0) (drop (suc i) old) x i size) (sym (append-snoc new x (drop (suc i) old)))
-
--- a pair stored behind r pairs
-pub store-pair : (new old : List ℕ) (r x y : ℕ) → length new ≡ 2 * r → 2 * r + 1 < length old
-    → storePair (overwrite new old) r x y ≡ overwrite (new ++ x ∷ y ∷ []) old
-store-pair new old r x y size room =
-    let here : 2 * r < length old = omega arith in
-    let next : length (new ++ x ∷ []) ≡ 2 * r + 1 = omega (arith, length-append new (x ∷ [])) in
-    ap (λ (l : List ℕ). set l (2 * r + 1) y) (store-one new old (2 * r) x size here)
-    ∙ store-one (new ++ x ∷ []) old (2 * r + 1) y next room
-    ∙ ap (λ (l : List ℕ). overwrite l old) (append-assoc new (x ∷ []) (y ∷ []))
 
 -- the slice from the end of the new entries on, overwritten in its turn and put back
 pub overwrite-more : (new more old current last : List ℕ) (a : ℕ) → length new ≡ a → a ≤ length old → current ≡ overwrite new old
@@ -76,7 +55,7 @@ module _ (block : List ℕ) (j : ℕ) (old : List ℕ) where
   filled-more k current last from room isWord isFilled stored =
       stored
       ∙ rw (isWord, isFilled, joined-more k (rowPair block j))
-      (store-pair (joined k (rowPair block j)) old k _ _ (length-pairs k) room)
+      (store-two (joined k (rowPair block j)) old (2 * k) _ _ (length-pairs k) room)
 
 -- the nodes whose rows stand in block b + 1
 module _ (file : List ℕ) (j : ℕ) where

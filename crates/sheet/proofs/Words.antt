@@ -89,7 +89,7 @@ module _ (words : List ℕ) (fits : length words ≤ closingPlace) where
       let last : wordAt bytes closingPlace ≡ closing (padded words) =
       word-bytes (closed (padded words)) closingPlace ∙ getD-at (padded words) (closing (padded words)) [] 0 closingPlace length-padded
       in
-      omega (arith, total-more closingPlace (wordAt bytes), before, last)
+      omega (arith, total-more closingPlace (wordAt bytes))
 
   -- and no other word closes them
   pub closing-unique : (block : List ℕ) → ((k : ℕ) → k < closingPlace → getD words k 0 ≡ wordAt block k) → wordSum block ≡ 0
@@ -101,7 +101,7 @@ module _ (words : List ℕ) (fits : length words ≤ closingPlace) where
       total-cong closingPlace _ _ (λ k l. getD-zeros words (closingPlace - length words) k ∙ same k l)
       in
       getD-at (padded words) (closing (padded words)) [] 0 closingPlace length-padded
-      ∙ omega (arith, total-more closingPlace (wordAt block), before)
+      ∙ omega (arith, total-more closingPlace (wordAt block))
 
 -- the pairs of a list, joined
 pairs-take : (n : ℕ) (l : List ℕ) → 2 * n ≤ length l → joined n (λ r. getD l (2 * r) 0 ∷ getD l (2 * r + 1) 0 ∷ []) ≡ take (2 * n) l

@@ -26,8 +26,7 @@ module _ (n separation : ℕ) (table tapes : List ℕ) where
   pub length-body : (b : ℕ) → length (body b) ≡ usedWords n b
   unfolding content usedWords row
   length-body zero = refl
-  length-body (suc b) =
-      omega (arith, length-joined rowWords (λ i. row table tapes (blockRows * b + i)) (λ k. refl) (rowsIn n b))
+  length-body (suc b) = omega (arith, length-joined rowWords (λ i. row table tapes (blockRows * b + i)) (λ k. refl) (rowsIn n b))
 
   used-fits : (b : ℕ) → usedWords n b ≤ closingPlace
   unfolding usedWords

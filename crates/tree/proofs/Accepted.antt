@@ -36,7 +36,7 @@ good-length t e =
 pub length-good : (t : List ℕ) → GoodLength (length t) → badLength t ≡ false
 unfolding badLength
 length-good t g =
-    or-false (or-false (ne-eqb (length t % 2) 1 (λ e. omega (arith, g .0))) (ne-eqb (length t) 0 (λ e. omega (arith, g .1))))
+    or-false (or-false (ne-eqb (length t % 2) 1 (λ e. omega arith)) (ne-eqb (length t) 0 (λ e. omega arith)))
     (le-ltb 2048 (length t) (g .2))
 
 -- ---- condition 2
@@ -93,8 +93,8 @@ alone-root t e = ap not (eq-eqb (nextSibling t 0) none e)
 pub named-once : (t : List ℕ) → namedTwice t ≡ false → (w : ℕ) → w < nodes t → is w 0 + count w t ≤ 1
 unfolding namedTwice
 named-once t e w h =
-    ⊎-elim (λ s. omega (arith, s .1, ap (λ (x : ℕ). count x t) (s .0), ltb-false 0 (count 0 t) (or-false-right (any (λ v. ltb 1 (count v t)) (upTo (nodes t))) _ e)))
-    (λ s. omega (arith, s .1, ltb-false 1 (count w t) (upTo-all (λ v. ltb 1 (count v t) ≡ false) (nodes t) (any-false (λ v. ltb 1 (count v t)) (upTo (nodes t)) (or-false-left _ (ltb 0 (count 0 t)) e)) w h)))
+    ⊎-elim (λ s. omega (arith, ap (λ (x : ℕ). count x t) (s .0), ltb-false 0 (count 0 t) (or-false-right (any (λ v. ltb 1 (count v t)) (upTo (nodes t))) _ e)))
+    (λ s. omega (arith, ltb-false 1 (count w t) (upTo-all (λ v. ltb 1 (count v t) ≡ false) (nodes t) (any-false (λ v. ltb 1 (count v t)) (upTo (nodes t)) (or-false-left _ (ltb 0 (count 0 t)) e)) w h)))
     (is-cases w 0)
 
 pub once-named : (t : List ℕ) → 0 < nodes t → ((w : ℕ) → w < nodes t → is w 0 + count w t ≤ 1) → namedTwice t ≡ false
@@ -110,9 +110,9 @@ linked t p =
     let g = good-length t (p .size) in
     let a = entries-named t (p .entries) in
     record {
-      even = omega (arith, g .0);
-      some = omega (arith, g .0, g .1);
-      few = omega (arith, g .2);
+      even = omega arith;
+      some = omega arith;
+      few = omega arith;
       child = λ v h. all-at (Names (nodes t)) t none a (2 * v) (omega arith);
       sibling = λ v h. all-at (Names (nodes t)) t none a (2 * v + 1) (omega arith);
       alone = root-alone t (p .root);
@@ -139,12 +139,10 @@ size-reached t L e =
         ⊎-elim (λ m. ap not m)
         (λ m. absurd (omega (
           arith,
-          e,
           size-preorder (treeOf t),
           distinct-lacking (nodes t) (preorder (treeOf t)) (tree-below t L) (tree-distinct t L) v h (member-none v (preorder (treeOf t)) m),
         )))
         (true-or-false (member v (preorder (treeOf t))))
 
 pub reached-size : (t : List ℕ) → Linked t → notReached t ≡ false → size (treeOf t) ≡ nodes t
-reached-size t L e =
-    omega (arith, tree-size t L, size-preorder (treeOf t), covering-length (nodes t) (preorder (treeOf t)) (all-reached t e))
+reached-size t L e = omega (arith, tree-size t L, size-preorder (treeOf t), covering-length (nodes t) (preorder (treeOf t)) (all-reached t e))

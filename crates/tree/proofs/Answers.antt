@@ -1,15 +1,15 @@
 -- The answers of mirror and renumber: refused for the table, refused for a slice that is too short, or accepted. Assumes nothing.
-use mathlib.Core.Path.{_≡_, refl, sym, ap, _∙_}
+use mathlib.Core.Path.{_≡_, sym, ap, _∙_}
 use mathlib.Core.Logic.{_⊎_, inl, inr, ⊎-elim}
 use mathlib.Core.Bool.{Bool, true, cond}
 use mathlib.Core.List.{List, [], _∷_, _++_}
-use Prim.Native.Nat.{ℕ, zero, suc, _*_, _≤_, _<_}
+use Prim.Native.Nat.{ℕ, _*_, _≤_, _<_}
 use native.Mathlib.Omega.{arith}
 use lib.Dec.{ltb}
 use lib.ListN.{length, drop}
 use borrow.Author.Tests.{lt-ltb, le-ltb}
 use Rattle.refusal.specs.First.{_⇐_, first}
-use Rattle.refusal.specs.After.{overwrite, after}
+use Rattle.refusal.proofs.After.{after-accepted, after-refused, overwrite-split}
 use Rattle.refusal.proofs.Laws.{first-refused, first-passed, first-none}
 use Rattle.tree.specs.Table.{nodes}
 use Rattle.tree.specs.Forest.{treeOf}
@@ -22,18 +22,6 @@ use Rattle.tree.proofs.Stands.{accepted-numbers, accepted-length, accep
 use Rattle.tree.proofs.TableOf.{length-tableOf}
 use Rattle.tree.proofs.Mirrored.{mirror-numbers}
 use Rattle.tree.proofs.Renumbered.{numberFrom-numbers}
-
--- ---- a lent slice afterwards
-
-module _ (new old : List ℕ) where
-  after-refused : (k : ℕ) → (k ≡ 0 → ⊥) → after k new old ≡ old
-  unfolding after
-  after-refused zero h = absurd (h refl)
-  after-refused (suc k) h = refl
-
-  after-accepted : (k n : ℕ) → k ≡ 0 → length new ≡ n → after k new old ≡ new ++ drop n old
-  unfolding after overwrite
-  after-accepted k n e l = ap (λ (j : ℕ). after j new old) e ∙ ap (λ (j : ℕ). new ++ drop j old) l
 
 -- ---- conditions 1 to 5, and then 7
 
@@ -49,12 +37,12 @@ module _ (t : List ℕ) where
 -- ---- mirror
 
 module _ (t out : List ℕ) where
-  answer : (k : ℕ) (l : List ℕ) → mirrorNumber t (length out) ≡ k → after k (mirrored t) out ≡ l → Mirror t out k l
-  answer k l e a = record { number = sym e; out = sym (ap (λ (j : ℕ). after j (mirrored t) out) e ∙ a) }
+  refused : (k : ℕ) → mirrorNumber t (length out) ≡ k → (k ≡ 0 → ⊥) → Mirror t out k out
+  refused k e d = record { number = sym e; out = sym (after-refused _ (mirrored t) out (rw e d)) }
 
   pub mirror-refused : (k : ℕ) → k ≡ tableNumber t → (k ≡ 0 → ⊥) → Mirror t out k out
   unfolding mirrorNumber
-  mirror-refused k e d = answer k out (seven-refused t _ (λ z. d (e ∙ z)) ∙ sym e) (after-refused (mirrored t) out k d)
+  mirror-refused k e d = refused k (seven-refused t _ (λ z. d (e ∙ z)) ∙ sym e) d
 
   module _ (accepted : tableNumber t ≡ 0) where
     mirrored-length : length (mirrored t) ≡ length t
@@ -66,32 +54,24 @@ module _ (t out : List ℕ) where
     pub mirror-short : length out < length t → Mirror t out 7 out
     unfolding mirrorNumber
     mirror-short h =
-        answer 7 out (seven-decides t _ accepted ∙ ap (λ (b : Bool). cond b 7 0) (lt-ltb (length out) (2 * nodes t) (omega (arith, accepted-length t accepted))))
-        (after-refused (mirrored t) out 7 (λ e. omega arith))
+        refused 7 (seven-decides t _ accepted ∙ rw (lt-ltb (length out) (2 * nodes t) (omega (arith, accepted-length t accepted)))) (λ e. omega arith)
 
     pub mirror-accepted : length t ≤ length out → (new : List ℕ) → new ≡ mirrored t → Mirror t out 0 (new ++ drop (length t) out)
     unfolding mirrorNumber
     mirror-accepted h new e =
-        answer 0 (new ++ drop (length t) out)
-        (seven-decides t _ accepted ∙ ap (λ (b : Bool). cond b 7 0) (le-ltb (length out) (2 * nodes t) (omega (arith, accepted-length t accepted))))
-        (after-accepted (mirrored t) out 0 (length t) refl mirrored-length ∙ ap (λ (l : List ℕ). l ++ drop (length t) out) (sym e))
+        let number : mirrorNumber t (length out) ≡ 0 = seven-decides t _ accepted ∙ rw (le-ltb (length out) (2 * nodes t) (omega (arith, accepted-length t accepted))) in
+        record { number = sym number; out = rw (e, after-accepted, overwrite-split (length t) (mirrored t) out mirrored-length) }
 
 -- ---- renumber
 
 module _ (t out map : List ℕ) where
-  answer₂ : (k : ℕ) (l m : List ℕ) → renumberNumber t (length out) (length map) ≡ k
-      → after k (renumbered t) out ≡ l → after k (oldNumbers t) map ≡ m → Renumber t out map k l m
-  answer₂ k l m e a b =
-      record {
-        number = sym e;
-        out = sym (ap (λ (j : ℕ). after j (renumbered t) out) e ∙ a);
-        map = sym (ap (λ (j : ℕ). after j (oldNumbers t) map) e ∙ b);
-      }
+  refused₂ : (k : ℕ) → renumberNumber t (length out) (length map) ≡ k → (k ≡ 0 → ⊥) → Renumber t out map k out map
+  refused₂ k e d =
+      record { number = sym e; out = sym (after-refused _ (renumbered t) out (rw e d)); map = sym (after-refused _ (oldNumbers t) map (rw e d)) }
 
   pub renumber-refused : (k : ℕ) → k ≡ tableNumber t → (k ≡ 0 → ⊥) → Renumber t out map k out map
   unfolding renumberNumber
-  renumber-refused k e d =
-      answer₂ k out map (seven-refused t _ (λ z. d (e ∙ z)) ∙ sym e) (after-refused (renumbered t) out k d) (after-refused (oldNumbers t) map k d)
+  renumber-refused k e d = refused₂ k (seven-refused t _ (λ z. d (e ∙ z)) ∙ sym e) d
 
   module _ (accepted : tableNumber t ≡ 0) where
     renumbered-length : length (renumbered t) ≡ length t
@@ -107,8 +87,7 @@ module _ (t out map : List ℕ) where
     pub renumber-short : (length out < length t) ⊎ (length map < nodes t) → Renumber t out map 7 out map
     unfolding renumberNumber
     renumber-short h =
-        answer₂ 7 out map (seven-decides t _ accepted ∙ ap (λ (b : Bool). cond b 7 0) (or-true (⊎-elim too-short too-few h)))
-        (after-refused (renumbered t) out 7 (λ e. omega arith)) (after-refused (oldNumbers t) map 7 (λ e. omega arith))
+        refused₂ 7 (seven-decides t _ accepted ∙ ap (λ (b : Bool). cond b 7 0) (or-true (⊎-elim too-short too-few h))) (λ e. omega arith)
       where
         too-short : length out < length t → (ltb (length out) (2 * nodes t) ≡ true) ⊎ (ltb (length map) (nodes t) ≡ true)
         too-short h = inl (lt-ltb (length out) (2 * nodes t) (omega (arith, accepted-length t accepted)))
@@ -120,9 +99,13 @@ module _ (t out map : List ℕ) where
         → Renumber t out map 0 (l ++ drop (length t) out) (m ++ drop (nodes t) map)
     unfolding renumberNumber
     renumber-accepted h i l m N =
-        answer₂ 0 (l ++ drop (length t) out) (m ++ drop (nodes t) map)
-        (seven-decides t _ accepted
+        let number : renumberNumber t (length out) (length map) ≡ 0 =
+        seven-decides t _ accepted
         ∙ ap (λ (b : Bool). cond b 7 0)
-        (or-false (le-ltb (length out) (2 * nodes t) (omega (arith, accepted-length t accepted))) (le-ltb (length map) (nodes t) i)))
-        (after-accepted (renumbered t) out 0 (length t) refl renumbered-length ∙ ap (λ (x : List ℕ). x ++ drop (length t) out) (sym (N .out)))
-        (after-accepted (oldNumbers t) map 0 (nodes t) refl old-numbers-length ∙ ap (λ (x : List ℕ). x ++ drop (nodes t) map) (sym (N .map)))
+        (or-false (le-ltb (length out) (2 * nodes t) (omega (arith, accepted-length t accepted))) (le-ltb (length map) (nodes t) i))
+        in
+        record {
+          number = sym number;
+          out = rw (N .out, after-accepted, overwrite-split (length t) (renumbered t) out renumbered-length);
+          map = rw (N .map, after-accepted, overwrite-split (nodes t) (oldNumbers t) map old-numbers-length);
+        }

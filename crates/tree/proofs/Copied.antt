@@ -23,10 +23,10 @@ copy-next from to k C inside =
       within = omega arith;
       same =
           ap (λ (j : ℕ). take j (set to k (getD from k 0))) (add-one k)
-          ∙ take-suc-set to k (getD from k 0) (omega (arith, C .size))
+          ∙ take-suc-set to k (getD from k 0) (omega arith)
           ∙ ap (λ (l : List ℕ). l ++ (getD from k 0 ∷ [])) (C .same)
           ∙ sym (ap (λ (j : ℕ). take j from) (add-one k) ∙ take-suc from k 0 inside);
     }
 
 pub copy-end : (from to : List ℕ) (k : ℕ) → Copying from to k → length from ≤ k → to ≡ from
-copy-end from to k C h = sym (take-all k to (omega (arith, C .size))) ∙ C .same ∙ take-all k from h
+copy-end from to k C h = sym (take-all k to (omega arith)) ∙ C .same ∙ take-all k from h

@@ -3,7 +3,7 @@
 use mathlib.Core.Path.{_≡_, refl, sym, ap, ap₂, _∙_}
 use mathlib.Core.Logic.{_⊎_, inl, inr, ⊎-elim}
 use mathlib.Core.Bool.{Bool, true, false, cond}
-use mathlib.Core.List.{List, [], _∷_, _++_}
+use mathlib.Core.List.{List, [], _∷_, _++_, map}
 use Prim.Native.Nat.{ℕ, zero, suc, _+_, _*_, _≤_, _<_}
 use native.Mathlib.Nat.{not-suc-le-zero}
 use native.Mathlib.Omega.{arith}
@@ -58,6 +58,14 @@ pub all-right {ℓ} : {A : Type ℓ} (P : A → Type 0) (l m : List A) → All P
 all-right P [] m a = a
 all-right P (x ∷ l) m a = all-right P l m (a .1)
 
+pub all-weaken : {A : Type 0} (P Q : A → Type 0) → ((x : A) → P x → Q x) → (l : List A) → All P l → All Q l
+all-weaken P Q h [] a = tt
+all-weaken P Q h (x ∷ l) a = (h x (a .0), all-weaken P Q h l (a .1))
+
+pub all-map : {A B : Type 0} (f : A → B) (P : A → Type 0) (Q : B → Type 0) → ((x : A) → P x → Q (f x)) → (l : List A) → All P l → All Q (map f l)
+all-map f P Q h [] a = tt
+all-map f P Q h (x ∷ l) a = (h x (a .0), all-map f P Q h l (a .1))
+
 -- every element is below n
 abbrev pub Below : ℕ → List ℕ → Type 0
 Below n = All (λ x. x < n)
@@ -65,7 +73,7 @@ Below n = All (λ x. x < n)
 pub count-outside : (n : ℕ) (l : List ℕ) → Below n l → (x : ℕ) → n ≤ x → count x l ≡ 0
 count-outside n [] b x h = refl
 count-outside n (y ∷ l) b x h =
-    let differ : x ≡ y → ⊥ = λ e. omega (arith, b .0) in
+    let differ : x ≡ y → ⊥ = λ e. omega arith in
     omega (arith, is-other x y differ, count-outside n l (b .1) x h)
 
 -- ---- sums over the numbers below n
@@ -108,8 +116,8 @@ below h d = omega arith
 pub sumBelow-once : (n a : ℕ) → a < n → sumBelow n (λ x. is x a) ≡ 1
 sumBelow-once zero a h = absurd (not-suc-le-zero h)
 sumBelow-once (suc n) a h =
-    ⊎-elim (λ e. omega (arith, e .1, sumBelow-outside n a (omega (arith, e .0))))
-    (λ e. omega (arith, e .1, sumBelow-once n a (below h (e .0))))
+    ⊎-elim (λ e. omega (arith, sumBelow-outside n a (omega arith)))
+    (λ e. omega (arith, sumBelow-once n a (below h (e .0))))
     (is-cases n a)
 
 -- a term of a sum is at most the sum
@@ -124,8 +132,7 @@ sumBelow-term (suc n) f a h =
 
 pub length-counts : (n : ℕ) (l : List ℕ) → Below n l → length l ≡ sumBelow n (λ x. count x l)
 length-counts n [] b = sym (sumBelow-zero n)
-length-counts n (y ∷ l) b =
-    omega (arith, length-counts n l (b .1), sumBelow-add n (λ x. is x y) (λ x. count x l), sumBelow-once n y (b .0))
+length-counts n (y ∷ l) b = omega (arith, length-counts n l (b .1), sumBelow-add n (λ x. is x y) (λ x. count x l), sumBelow-once n y (b .0))
 
 pub counts-length : (n : ℕ) (l : List ℕ) → sumBelow n (λ x. count x l) ≤ length l
 counts-length n [] = omega (arith, sumBelow-zero n)
@@ -158,7 +165,7 @@ distinct-lacking n l b d a h e =
     )
   where
     both : (x : ℕ) → x < n → is x a + count x l ≤ 1
-    both x k = ⊎-elim (λ s. omega (arith, s .1, ap (λ (y : ℕ). count y l) (s .0))) (λ s. omega (arith, s .1, d x k)) (is-cases x a)
+    both x k = ⊎-elim (λ s. omega (arith, ap (λ (y : ℕ). count y l) (s .0))) (λ s. omega (arith, d x k)) (is-cases x a)
 
 -- ---- sums over the elements of a list
 
@@ -174,7 +181,7 @@ sumOver-append f (x ∷ l) m = omega (arith, sumOver-append f l m)
 pub sumBelow-single : (f : ℕ → ℕ) (n a : ℕ) → a < n → sumBelow n (λ x. is x a * f x) ≡ f a
 sumBelow-single f zero a h = absurd (not-suc-le-zero h)
 sumBelow-single f (suc n) a h =
-    ⊎-elim (λ e. omega (arith, outside n (omega (arith, e .0)), ap (λ (k : ℕ). k * f n) (e .1), ap f (e .0)))
+    ⊎-elim (λ e. omega (arith, outside n (omega arith), ap (λ (k : ℕ). k * f n) (e .1), ap f (e .0)))
     (λ e. omega (arith, sumBelow-single f n a (below h (e .0)), ap (λ (k : ℕ). k * f n) (e .1)))
     (is-cases n a)
   where
@@ -207,13 +214,13 @@ below-upTo (suc n) = all-append (λ x. x < suc n) (upTo n) (n ∷ []) (wider (up
   where
     wider : (l : List ℕ) → Below n l → Below (suc n) l
     wider [] b = tt
-    wider (x ∷ l) b = (omega (arith, b .0), wider l (b .1))
+    wider (x ∷ l) b = (omega arith, wider l (b .1))
 
 pub count-upTo : (n x : ℕ) → x < n → count x (upTo n) ≡ 1
 count-upTo zero x h = absurd (not-suc-le-zero h)
 count-upTo (suc n) x h =
-    ⊎-elim (λ e. omega (arith, count-append x (upTo n) (n ∷ []), e .1, count-outside n (upTo n) (below-upTo n) x (omega (arith, e .0))))
-    (λ e. omega (arith, count-append x (upTo n) (n ∷ []), e .1, count-upTo n x (less h (e .0))))
+    ⊎-elim (λ e. omega (arith, count-append x (upTo n) (n ∷ []), count-outside n (upTo n) (below-upTo n) x (omega arith)))
+    (λ e. omega (arith, count-append x (upTo n) (n ∷ []), count-upTo n x (less h (e .0))))
     (is-cases x n)
   where
     less : x < suc n → (x ≡ n → ⊥) → x < n

@@ -22,10 +22,10 @@ module _ (t : List ℕ) (e : tableNumber t ≡ 0) where
   -- ---- node v's row, as the code reads it
 
   pub first-inside : (v : ℕ) → v < nodes t → 2 * v < length t
-  first-inside v h = omega (arith, accepted-linked .even)
+  first-inside v h = omega arith
 
   pub second-inside : (v : ℕ) → v < nodes t → 2 * v + 1 < length t
-  second-inside v h = omega (arith, accepted-linked .even)
+  second-inside v h = omega arith
 
   pub first-read : (v : ℕ) → v < nodes t → getD t (2 * v) 0 ≡ firstChild t v
   first-read v h = getD-any t (2 * v) 0 none (first-inside v h)

@@ -110,14 +110,14 @@ module _ (v w : ℕ) (g h : Forest) (child : member w (roots g) ≡ true) where
       let hw : 1 ≤ count w (preorder a) =
       omega (arith, part-count w p, member-count w (roots g) child, count-roots w g, count-append w (preorder g) (preorder h)) in
       level-child u a b w cw hw
-      ∙ ap suc (part-level p (omega (arith, cv, count-append v (preorder a) (preorder b))) (omega (arith, cw, count-append w (preorder a) (preorder b))))
+      ∙ ap suc (part-level p (omega (arith, count-append v (preorder a) (preorder b))) (omega (arith, count-append w (preorder a) (preorder b))))
       ∙ ap suc (sym (level-child u a b v cv hv))
   part-level (in-siblings {v = u} {f = a} {h = b} p) cv cw =
       let hv : 1 ≤ count v (preorder b) = omega (arith, part-count v p, is-same v v refl) in
       let hw : 1 ≤ count w (preorder b) =
       omega (arith, part-count w p, member-count w (roots g) child, count-roots w g, count-append w (preorder g) (preorder h)) in
       level-sibling u a b w cw hw
-      ∙ part-level p (omega (arith, cv, count-append v (preorder a) (preorder b))) (omega (arith, cw, count-append w (preorder a) (preorder b)))
+      ∙ part-level p (omega (arith, count-append v (preorder a) (preorder b))) (omega (arith, count-append w (preorder a) (preorder b)))
       ∙ ap suc (sym (level-sibling u a b v cv hv))
 
 module _ (t : List ℕ) (e : tableNumber t ≡ 0) where
@@ -126,7 +126,7 @@ module _ (t : List ℕ) (e : tableNumber t ≡ 0) where
   root-level = level-root 0 (treeOf t) (first (treeOf t) (accepted-numbers t e .root))
     where
       first : (f : Forest) → entry f ≡ 0 → member 0 (roots f) ≡ true
-      first nil p = absurd (omega (arith, p))
+      first nil p = absurd (omega arith)
       first (node v f g) p = count-member 0 (roots (node v f g)) (omega (arith, is-same 0 v (sym p)))
 
   pub child-level : (v w : ℕ) → v < nodes t → member w (childrenOf t v) ≡ true → level t w ≡ suc (level t v)

@@ -20,6 +20,8 @@ pub mod Mirrored
 pub mod Renumbered
 pub mod Answers
 pub mod Scan
+pub mod Stack
+pub mod Pending
 pub mod Visit
 pub mod LastChild
 pub mod Turned

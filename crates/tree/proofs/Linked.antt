@@ -64,22 +64,13 @@ module _ (t : List ℕ) (L : Linked t) where
   pub distinct-from : (k : ℕ) → Distinct (nodes t) (preorder (forestFrom k t 0))
   distinct-from zero w h = omega arith
   distinct-from (suc k) w h =
-      omega (
-        arith,
-        one-further t w h k 0,
-        L .once w h,
-        few-names w (preorder (forestFrom k t 0)) (from-below t k 0) (distinct-from k),
-      )
+      omega (arith, one-further t w h k 0, L .once w h, few-names w (preorder (forestFrom k t 0)) (from-below t k 0) (distinct-from k))
 
   -- ---- the tree is whole
 
   pub size-from : (k : ℕ) → size (forestFrom k t 0) ≤ nodes t
   size-from k =
-      omega (
-        arith,
-        size-preorder (forestFrom k t 0),
-        distinct-length (nodes t) (preorder (forestFrom k t 0)) (from-below t k 0) (distinct-from k),
-      )
+      omega (arith, size-preorder (forestFrom k t 0), distinct-length (nodes t) (preorder (forestFrom k t 0)) (from-below t k 0) (distinct-from k))
 
   whole : forestFrom (suc (nodes t)) t 0 ≡ forestFrom (nodes t) t 0
   whole = ⊎-elim (λ e. e) (λ h. absurd (omega (arith, size-from (suc (nodes t))))) (whole-or-long t (nodes t) 0)
@@ -91,7 +82,7 @@ module _ (t : List ℕ) (L : Linked t) where
   agrees-from zero v (inr h) e = (tt, sym h)
   agrees-from (suc k) v (inr h) e =
       subst (λ (f : Forest). Agrees t f × (entry f ≡ v))
-      (sym (from-nil t (suc k) v (le-ltb v (nodes t) (omega (arith, L .few))))) (tt, sym h)
+      (sym (from-nil t (suc k) v (le-ltb v (nodes t) (omega arith)))) (tt, sym h)
   agrees-from (suc k) v (inl h) e =
       let test : ltb v (nodes t) ≡ true = lt-ltb v (nodes t) h in
       let same = node-injective (sym (from-node t (suc k) v test) ∙ e ∙ from-node t k v test) in

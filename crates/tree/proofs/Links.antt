@@ -33,7 +33,7 @@ old-numbers t old e o bound h =
     let N = accepted-numbers t e in
     let b : Below (nodes t) old = subst (Below (nodes t)) (sym o) (N .below) in
     record {
-      few = omega (arith, ap length o, size-preorder (treeOf t), accepted-size t e, N .few);
+      few = omega (arith, ap length o, size-preorder (treeOf t), accepted-size t e);
       below = λ k i. omega (arith, all-at (λ x. x < nodes t) old 0 b k i);
       apart = λ j k i l p.
           one-place (getD old k 0) 0 old
@@ -60,9 +60,9 @@ invert-next old new bound k O I inside =
       within = omega arith;
       inverse = λ j h.
           ⊎-elim (λ s. subst (λ (x : ℕ). getD (set new (getD old k 0) k) (getD old x 0) 0 ≡ x) (sym (s .0))
-          (getD-set-same new (getD old k 0) k 0 (omega (arith, I .size, O .below k inside))))
+          (getD-set-same new (getD old k 0) k 0 (omega (arith, O .below k inside))))
           (λ s.
-          getD-set-other new (getD old k 0) (getD old j 0) k 0 (λ p. s .0 (O .apart j k (omega (arith, I .within)) inside p))
+          getD-set-other new (getD old k 0) (getD old j 0) k 0 (λ p. s .0 (O .apart j k (omega arith) inside p))
           ∙ I .inverse j (earlier h (s .0)))
           (is-cases j k);
     }
@@ -132,10 +132,10 @@ module _ (t old new : List ℕ) (accepted : tableNumber t ≡ 0) (o : old ≡ pr
     linked-row c s = set (set out (2 * k) c) (2 * k + 1) s
 
     room₁ : 2 * k < length out
-    room₁ = omega (arith, K .size, L .even, old-length t old accepted o)
+    room₁ = omega (arith, old-length t old accepted o)
 
     room₂ : (c : ℕ) → 2 * k + 1 < length (set out (2 * k) c)
-    room₂ c = omega (arith, length-set out (2 * k) c, K .size, L .even, old-length t old accepted o)
+    room₂ c = omega (arith, length-set out (2 * k) c, old-length t old accepted o)
 
     link-next : (c s : ℕ) → c ≡ renamed new (getD t (2 * getD old k 0) 0) → s ≡ renamed new (getD t (2 * getD old k 0 + 1) 0)
         → Linking t old new (linked-row c s) (k + 1)
@@ -185,7 +185,7 @@ module _ (t old new : List ℕ) (accepted : tableNumber t ≡ 0) (o : old ≡ pr
     renamed-entry (node v f g) front rest k e l b =
         ap (λ (x : Bool). cond x none (getD new v 0)) (ne-eqb v none (λ p. omega (arith, L .few, b .0)))
         ∙ ap (λ (x : ℕ). getD new x 0) (sym (ap (λ (l : List ℕ). getD l k 0) e ∙ getD-at front v ((preorder f ++ preorder g) ++ rest) 0 k l))
-        ∙ W .inverse k (omega (arith, ap length e, length-append front (v ∷ ((preorder f ++ preorder g) ++ rest)), l))
+        ∙ W .inverse k (omega (arith, ap length e, length-append front (v ∷ ((preorder f ++ preorder g) ++ rest))))
 
     -- the rows of a part of the tree
     rows-agree : (out : List ℕ) → Linking t old new out (length old)
@@ -195,15 +195,15 @@ module _ (t old new : List ℕ) (accepted : tableNumber t ≡ 0) (o : old ≡ pr
     rows-agree out K (node v f g) front rest k e l a b =
         let left = all-left (λ x. x < nodes t) (preorder f) (preorder g) (b .1) in
         let right = all-right (λ x. x < nodes t) (preorder f) (preorder g) (b .1) in
-        let inside : k < length old = omega (arith, ap length e, length-append front (v ∷ ((preorder f ++ preorder g) ++ rest)), l) in
+        let inside : k < length old = omega (arith, ap length e, length-append front (v ∷ ((preorder f ++ preorder g) ++ rest))) in
         let here : getD old k 0 ≡ v = ap (λ (l : List ℕ). getD l k 0) e ∙ getD-at front v ((preorder f ++ preorder g) ++ rest) 0 k l in
         let next = e ∙ ap (λ (r : List ℕ). front ++ (v ∷ r)) (append-assoc (preorder f) (preorder g) rest) in
         let below : old ≡ (front ++ (v ∷ [])) ++ (preorder f ++ (preorder g ++ rest)) =
         next ∙ sym (append-assoc front (v ∷ []) (preorder f ++ (preorder g ++ rest))) in
         let after : old ≡ (front ++ (v ∷ preorder f)) ++ (preorder g ++ rest) =
         next ∙ sym (append-assoc front (v ∷ preorder f) (preorder g ++ rest)) in
-        let m : length (front ++ (v ∷ [])) ≡ k + 1 = omega (arith, length-append front (v ∷ []), l) in
-        let n : length (front ++ (v ∷ preorder f)) ≡ k + 1 + size f = omega (arith, length-append front (v ∷ preorder f), l, size-preorder f) in (
+        let m : length (front ++ (v ∷ [])) ≡ k + 1 = omega (arith, length-append front (v ∷ [])) in
+        let n : length (front ++ (v ∷ preorder f)) ≡ k + 1 + size f = omega (arith, length-append front (v ∷ preorder f), size-preorder f) in (
           K .child k inside ∙ ap (λ (x : ℕ). renamed new (firstChild t x)) here ∙ ap (renamed new) (a .0)
               ∙ renamed-entry f (front ++ (v ∷ [])) (preorder g ++ rest) (k + 1) below m left,
           K .sibling k inside ∙ ap (λ (x : ℕ). renamed new (nextSibling t x)) here ∙ ap (renamed new) (a .1)
@@ -216,7 +216,7 @@ module _ (t old new : List ℕ) (accepted : tableNumber t ≡ 0) (o : old ≡ pr
     unfolding renumbered
     link-end out k K h =
         let N = accepted-numbers t accepted in
-        let all : k ≡ length old = omega (arith, K .within) in
+        let all : k ≡ length old = omega arith in
         tableOf-unique (nodes t) (numberFrom 0 (treeOf t)) (numberFrom-numbers (nodes t) (treeOf t) N) out (K .size ∙ accepted-length t accepted)
         (rows-agree out (subst (Linking t old new out) all K) (treeOf t) [] [] 0 (o ∙ sym (append-nil (preorder (treeOf t)))) refl
         (accepted-agrees t accepted) (N .below))

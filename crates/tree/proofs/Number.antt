@@ -1,10 +1,9 @@
 -- The number of a table: 0 exactly when no condition holds, and else that of the first that does. Assumes nothing.
-use mathlib.Core.Path.{_≡_, refl}
+use mathlib.Core.Path.{_≡_}
 use mathlib.Core.Logic.{_↔_, _⊎_, inl, inr, ⊎-elim}
 use mathlib.Core.Bool.{true, false}
 use mathlib.Core.List.{List}
-use Rattle.refusal.specs.After.{granted}
-use Prim.Native.Nat.{ℕ, zero, suc, _%_, _<_, _≤_}
+use Prim.Native.Nat.{ℕ, _%_, _<_, _≤_}
 use native.Mathlib.Omega.{arith}
 use lib.ListN.{length}
 use Rattle.refusal.proofs.Laws.{NoneHolds, first-none, none-first}
@@ -25,9 +24,9 @@ pub length-bad : (t : List ℕ) → (length t % 2 ≡ 1) ⊎ ((length t ≡ 0) �
 length-bad t h = ⊎-elim (λ e. e) (λ e. absurd (no (good-length t e) h)) (true-or-false (badLength t))
   where
     no : (length t % 2 ≡ 0) × (0 < length t) × (length t ≤ 2048) → (length t % 2 ≡ 1) ⊎ ((length t ≡ 0) ⊎ (2048 < length t)) → ⊥
-    no g (inl e) = omega (arith, g .0)
-    no g (inr (inl e)) = omega (arith, g .1)
-    no g (inr (inr e)) = omega (arith, g .2)
+    no g (inl e) = omega arith
+    no g (inr (inl e)) = omega arith
+    no g (inr (inr e)) = omega arith
 
 module _ (t : List ℕ) where
   pub number-1 : badLength t ≡ true → tableNumber t ≡ 1
@@ -50,7 +49,7 @@ module _ (t : List ℕ) where
   pub number-5 : Passed t → size (treeOf t) < nodes t → tableNumber t ≡ 5
   unfolding tableNumber tableConditions
   number-5 p h =
-      let e : notReached t ≡ true = ⊎-elim (λ e. e) (λ e. absurd (omega (arith, h, reached-size t (linked t p) e))) (true-or-false (notReached t)) in
+      let e : notReached t ≡ true = ⊎-elim (λ e. e) (λ e. absurd (omega (arith, reached-size t (linked t p) e))) (true-or-false (notReached t)) in
       simp (p .size, p .entries, p .root, p .named, e)
 
   pub number-0 : Passed t → size (treeOf t) ≡ nodes t → tableNumber t ≡ 0
@@ -58,8 +57,3 @@ module _ (t : List ℕ) where
   number-0 p h =
       let e : notReached t ≡ false = size-reached t (linked t p) h in
       simp (p .size, p .entries, p .root, p .named, e)
-
--- a refusal leaves the count of nodes at 0
-pub refused-none : (k n : ℕ) → (k ≡ 0 → ⊥) → 0 ≡ granted k n 0
-refused-none zero n h = absurd (h refl)
-refused-none (suc k) n h = refl

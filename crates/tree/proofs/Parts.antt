@@ -24,7 +24,7 @@ locate nil v c = absurd (not-suc-le-zero c)
 locate (node u a b) v c =
     ⊎-elim (λ s. (a, b, subst (λ (x : ℕ). Part (node x a b) (node u a b)) (sym (s .0)) whole))
     (λ s.
-    ⊎-elim (λ n. let r = locate b v (omega (arith, n, s .1, count-append v (preorder a) (preorder b))) in (r .0, r .1, in-siblings (r .2)))
+    ⊎-elim (λ n. let r = locate b v (omega (arith, count-append v (preorder a) (preorder b))) in (r .0, r .1, in-siblings (r .2)))
     (λ n. let r = locate a v n in (r .0, r .1, in-children (r .2)))
     (none-or-some (count v (preorder a))))
     (is-cases v u)
@@ -63,27 +63,27 @@ part-trans p (in-siblings q) = in-siblings (part-trans p q)
 pub starting-none : (v : ℕ) (f : Forest) → count v (preorder f) ≡ 0 → startingAt v f ≡ nil
 starting-none v nil c = refl
 starting-none v (node u a b) c =
-    ⊎-elim (λ s. absurd (omega (arith, c, s .1)))
+    ⊎-elim (λ s. absurd (omega arith))
     (λ s.
     ap (λ (x : Bool). cond x (node u a b) (orElse (startingAt v a) (startingAt v b))) (ne-eqb v u (s .0))
-    ∙ ap (λ (x : Forest). orElse x (startingAt v b)) (starting-none v a (omega (arith, c, count-append v (preorder a) (preorder b))))
-    ∙ starting-none v b (omega (arith, c, count-append v (preorder a) (preorder b))))
+    ∙ ap (λ (x : Forest). orElse x (startingAt v b)) (starting-none v a (omega (arith, count-append v (preorder a) (preorder b))))
+    ∙ starting-none v b (omega (arith, count-append v (preorder a) (preorder b))))
     (is-cases v u)
 
 -- where v occurs once, there is one part that it heads
 pub starting-part : (v : ℕ) (g h : Forest) {f : Forest} → Part (node v g h) f → count v (preorder f) ≤ 1 → startingAt v f ≡ node v g h
 starting-part v g h whole c = ap (λ (x : Bool). cond x (node v g h) (orElse (startingAt v g) (startingAt v h))) (eq-eqb v v refl)
 starting-part v g h (in-children {v = u} {f = a} {h = b} p) c =
-    ⊎-elim (λ s. absurd (omega (arith, c, s .1, count-append v (preorder a) (preorder b), part-count v p, is-same v v refl)))
+    ⊎-elim (λ s. absurd (omega (arith, count-append v (preorder a) (preorder b), part-count v p, is-same v v refl)))
     (λ s.
     ap (λ (x : Bool). cond x (node u a b) (orElse (startingAt v a) (startingAt v b))) (ne-eqb v u (s .0))
-    ∙ ap (λ (x : Forest). orElse x (startingAt v b)) (starting-part v g h p (omega (arith, c, count-append v (preorder a) (preorder b)))))
+    ∙ ap (λ (x : Forest). orElse x (startingAt v b)) (starting-part v g h p (omega (arith, count-append v (preorder a) (preorder b)))))
     (is-cases v u)
 starting-part v g h (in-siblings {v = u} {f = a} {h = b} p) c =
-    ⊎-elim (λ s. absurd (omega (arith, c, s .1, count-append v (preorder a) (preorder b), part-count v p, is-same v v refl)))
+    ⊎-elim (λ s. absurd (omega (arith, count-append v (preorder a) (preorder b), part-count v p, is-same v v refl)))
     (λ s.
     ap (λ (x : Bool). cond x (node u a b) (orElse (startingAt v a) (startingAt v b))) (ne-eqb v u (s .0))
     ∙ ap (λ (x : Forest). orElse x (startingAt v b))
-    (starting-none v a (omega (arith, c, count-append v (preorder a) (preorder b), part-count v p, is-same v v refl)))
-    ∙ starting-part v g h p (omega (arith, c, count-append v (preorder a) (preorder b))))
+    (starting-none v a (omega (arith, count-append v (preorder a) (preorder b), part-count v p, is-same v v refl)))
+    ∙ starting-part v g h p (omega (arith, count-append v (preorder a) (preorder b))))
     (is-cases v u)

@@ -43,7 +43,7 @@ reached-in t (node v f g) a b s =
 module _ (t : List ℕ) (L : Linked t) where
   -- a forest whose first root has a number below n has that node
   starts : (w : ℕ) → w < nodes t → (f : Forest) → entry f ≡ w → 1 ≤ count w (preorder f)
-  starts w h nil e = absurd (omega (arith, e, L .few))
+  starts w h nil e = absurd (omega arith)
   starts w h (node v f g) e = omega (arith, is-same w v (sym e))
 
   stays : (v : ℕ) → Reached t v → 1 ≤ count v (preorder (treeOf t))

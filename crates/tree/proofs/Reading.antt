@@ -83,7 +83,7 @@ module _ (t : List ℕ) where
       → count w (preorder (forestFrom (suc k) t v)) ≡ is w v + sumOver (names t w) (preorder (forestFrom k t v))
   one-further w hw zero v =
       ⊎-elim (λ h. ap (λ (f : Forest). count w (preorder f)) (from-node zero v (h .1)))
-      (λ h. ap (λ (f : Forest). count w (preorder f)) (from-nil 1 v (h .1)) ∙ omega (arith, is-other w v (λ e. omega (arith, h .0))))
+      (λ h. ap (λ (f : Forest). count w (preorder f)) (from-nil 1 v (h .1)) ∙ omega (arith, is-other w v (λ e. omega arith)))
       (below-or-not v (nodes t))
   one-further w hw (suc k) v =
       ⊎-elim (λ h.
@@ -98,7 +98,7 @@ module _ (t : List ℕ) where
       ))
       (λ h.
       ap (λ (f : Forest). count w (preorder f)) (from-nil (suc (suc k)) v (h .1))
-      ∙ omega (arith, is-other w v (λ e. omega (arith, h .0)), ap (λ (f : Forest). sumOver (names t w) (preorder f)) (from-nil (suc k) v (h .1))))
+      ∙ omega (arith, is-other w v (λ e. omega arith), ap (λ (f : Forest). sumOver (names t w) (preorder f)) (from-nil (suc k) v (h .1))))
       (below-or-not v (nodes t))
 
   -- either a further step adds nothing, or there are as many nodes as steps

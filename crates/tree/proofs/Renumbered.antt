@@ -47,10 +47,6 @@ preorder-numberFrom k (node v f g) =
     ap (λ (r : List ℕ). k ∷ r)
     (ap₂ _++_ (preorder-numberFrom (k + 1) f) (preorder-numberFrom (k + 1 + size f) g) ∙ sym (run-append (k + 1) (size f) (size g)))
 
-pub size-numberFrom : (k : ℕ) (f : Forest) → size (numberFrom k f) ≡ size f
-size-numberFrom k nil = refl
-size-numberFrom k (node v f g) = omega (arith, size-numberFrom (k + 1) f, size-numberFrom (k + 1 + size f) g)
-
 pub shape-numberFrom : (k : ℕ) (f : Forest) → sameShape (numberFrom k f) f ≡ true
 shape-numberFrom k nil = refl
 shape-numberFrom k (node v f g) = ap₂ _&&_ (shape-numberFrom (k + 1) f) (shape-numberFrom (k + 1 + size f) g)

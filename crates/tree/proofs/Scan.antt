@@ -43,12 +43,12 @@ pub record Scanning (t named : List ℕ) (repeats i : ℕ) : Type 0 where
 
 module _ (t marks : List ℕ) (ok : badLength t ≡ false) (U : Unmarked (nodes t) marks) where
   pub some-marks : 0 < length marks
-  some-marks = omega (arith, good-length t ok .0, good-length t ok .1, U .enough)
+  some-marks = omega (arith, good-length t ok .0, good-length t ok .1)
 
   pub scan-start : Scanning t (set marks 0 1) 0 0
   scan-start =
       record {
-        size = omega (arith, length-set marks 0 1, U .enough);
+        size = omega (arith, length-set marks 0 1);
         within = omega arith;
         good = tt;
         few = omega arith;
@@ -57,12 +57,12 @@ module _ (t marks : List ℕ) (ok : badLength t ≡ false) (U : Unmarked (nodes 
       }
     where
       none-yet : (v : ℕ) → naming t 0 v - 1 ≡ 0
-      none-yet v = ⊎-elim (λ s. omega (arith, s .1)) (λ s. omega (arith, s .1)) (is-cases v 0)
+      none-yet v = ⊎-elim (λ s. omega arith) (λ s. omega arith) (is-cases v 0)
 
       first-set : (v : ℕ) → v < nodes t → getD (set marks 0 1) v 0 ≡ min 1 (naming t 0 v)
       first-set v h =
-          ⊎-elim (λ s. ap (λ (x : ℕ). getD (set marks 0 1) x 0) (s .0) ∙ getD-set-same marks 0 1 0 some-marks ∙ omega (arith, s .1))
-          (λ s. getD-set-other marks 0 v 1 0 (s .0) ∙ U .clear v h ∙ omega (arith, s .1))
+          ⊎-elim (λ s. ap (λ (x : ℕ). getD (set marks 0 1) x 0) (s .0) ∙ getD-set-same marks 0 1 0 some-marks ∙ omega arith)
+          (λ s. getD-set-other marks 0 v 1 0 (s .0) ∙ U .clear v h ∙ omega arith)
           (is-cases v 0)
 
 module _ (t named : List ℕ) (repeats i : ℕ) (S : Scanning t named repeats i) (inside : i < length t) where
@@ -79,22 +79,22 @@ module _ (t named : List ℕ) (repeats i : ℕ) (S : Scanning t named repeats i)
         size = S .size;
         within = omega arith;
         good = subst (All (Names (nodes t))) (sym taken) (all-append (Names (nodes t)) (take i t) (getD t i 0 ∷ []) (S .good) (inr e, tt));
-        few = omega (arith, S .few);
+        few = omega arith;
         marks = λ v h. S .marks v h ∙ ap (min 1) (sym (same v h));
         sum = S .sum ∙ sumBelow-cong (nodes t) (λ v. naming t i v - 1) (λ v. naming t (i + 1) v - 1) (λ v h. ap (λ (k : ℕ). k - 1) (sym (same v h)));
       }
     where
       same : (v : ℕ) → v < nodes t → naming t (i + 1) v ≡ naming t i v
-      same v h = omega (arith, counted v, is-other v (getD t i 0) (λ p. omega (arith, p, e, few)))
+      same v h = omega (arith, counted v, is-other v (getD t i 0) (λ p. omega arith))
 
   -- an entry that names a node
   pub scan-mark : getD t i 0 < nodes t → nodes t ≤ 1024 → Scanning t (set named (getD t i 0) 1) (repeats + getD named (getD t i 0) 0) (i + 1)
   scan-mark below few =
       record {
-        size = omega (arith, length-set named e 1, S .size);
+        size = omega (arith, length-set named e 1);
         within = omega arith;
         good = subst (All (Names (nodes t))) (sym taken) (all-append (Names (nodes t)) (take i t) (e ∷ []) (S .good) (inl below, tt));
-        few = omega (arith, S .few, S .marks e below);
+        few = omega (arith, S .marks e below);
         marks = marks;
         sum = sum;
       }
@@ -106,22 +106,21 @@ module _ (t named : List ℕ) (repeats i : ℕ) (S : Scanning t named repeats i)
       marks v h =
           ⊎-elim (λ s.
           ap (λ (x : ℕ). getD (set named (getD t i 0) 1) x 0) (s .0)
-          ∙ getD-set-same named (getD t i 0) 1 0 (omega (arith, S .size))
-          ∙ omega (arith, counted v, s .1))
-          (λ s. getD-set-other named (getD t i 0) v 1 0 (s .0) ∙ S .marks v h ∙ ap (min 1) (omega (arith, counted v, s .1)))
+          ∙ getD-set-same named (getD t i 0) 1 0 (omega arith)
+          ∙ omega (arith, counted v))
+          (λ s. getD-set-other named (getD t i 0) v 1 0 (s .0) ∙ S .marks v h ∙ ap (min 1) (omega (arith, counted v)))
           (is-cases v (getD t i 0))
 
       each : (v : ℕ) → v < nodes t → naming t (i + 1) v - 1 ≡ (naming t i v - 1) + is v (getD t i 0) * min 1 (naming t i v)
       each v h =
-          ⊎-elim (λ s. omega (arith, counted v, s .1, ap (λ (k : ℕ). k * min 1 (naming t i v)) (s .1)))
-          (λ s. omega (arith, counted v, s .1, ap (λ (k : ℕ). k * min 1 (naming t i v)) (s .1)))
+          ⊎-elim (λ s. omega (arith, counted v, ap (λ (k : ℕ). k * min 1 (naming t i v)) (s .1)))
+          (λ s. omega (arith, counted v, ap (λ (k : ℕ). k * min 1 (naming t i v)) (s .1)))
           (is-cases v (getD t i 0))
 
       sum : repeats + getD named (getD t i 0) 0 ≡ sumBelow (nodes t) (λ v. naming t (i + 1) v - 1)
       sum =
           omega (
             arith,
-            S .sum,
             S .marks (getD t i 0) below,
             sumBelow-cong (nodes t) (λ v. naming t (i + 1) v - 1) (λ v. (naming t i v - 1) + is v (getD t i 0) * min 1 (naming t i v)) each,
             sumBelow-add (nodes t) (λ v. naming t i v - 1) (λ v. is v (getD t i 0) * min 1 (naming t i v)),
@@ -132,7 +131,7 @@ module _ (t named : List ℕ) (repeats i : ℕ) (S : Scanning t named repeats i)
 pub scan-bad : (t : List ℕ) (i : ℕ) → i < length t → (getD t i 0 ≡ none → ⊥) → nodes t ≤ getD t i 0 → true ≡ badEntry t
 scan-bad t i h some large =
     ⊎-elim (λ e. sym e)
-    (λ e. absurd (⊎-elim (λ k. omega (arith, k, getD-any t i 0 none h)) (λ k. some (getD-any t i 0 none h ∙ k))
+    (λ e. absurd (⊎-elim (λ k. omega (arith, getD-any t i 0 none h)) (λ k. some (getD-any t i 0 none h ∙ k))
     (all-at (Names (nodes t)) t none (entries-named t e) i h)))
     (true-or-false (badEntry t))
 
@@ -150,8 +149,6 @@ module _ (t named : List ℕ) (repeats i : ℕ) (ok : badLength t ≡ false) (S 
       ap not (ne-eqb repeats 0 (λ z. true≢false (sym e ∙ once-named t some (λ w h. omega (
         arith,
         ap (count w) whole,
-        S .sum,
-        z,
         sumBelow-term (nodes t) (λ v. naming t i v - 1) w h,
       )))))
       ∙ sym e)

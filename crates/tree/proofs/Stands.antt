@@ -67,12 +67,7 @@ accepted-numbers t e =
     single nil r a s few b = refl
     single (node v f nil) r a s few b = refl
     single (node v f (node w g h)) r a s few b =
-        absurd (omega (
-          arith,
-          few,
-          all-right (λ x. x < nodes t) (preorder f) (preorder (node w g h)) (b .1) .0,
-          sym (a .1) ∙ ap (nextSibling t) r ∙ s,
-        ))
+        absurd (omega (arith, all-right (λ x. x < nodes t) (preorder f) (preorder (node w g h)) (b .1) .0, sym (a .1) ∙ ap (nextSibling t) r ∙ s))
 
 pub accepted-size : (t : List ℕ) → tableNumber t ≡ 0 → size (treeOf t) ≡ nodes t
 accepted-size t e = numbers-size (nodes t) (treeOf t) (accepted-numbers t e)
@@ -128,12 +123,12 @@ module _ (t : List ℕ) (f : Forest) (even : length t ≡ 2 * nodes t) (N : Numb
 
       left : i ≡ 2 * (i / 2) → Names (nodes t) (getD t i none)
       left e =
-          let r = row-at (i / 2) (omega (arith, even)) in
+          let r = row-at (i / 2) (omega arith) in
           subst (Names (nodes t)) (sym (ap (λ (k : ℕ). getD t k none) e ∙ r .2)) (entry-names (nodes t) (r .0) (r .4))
 
       right : i ≡ 2 * (i / 2) + 1 → Names (nodes t) (getD t i none)
       right e =
-          let r = row-at (i / 2) (omega (arith, even)) in
+          let r = row-at (i / 2) (omega arith) in
           subst (Names (nodes t)) (sym (ap (λ (k : ℕ). getD t k none) e ∙ r .3)) (entry-names (nodes t) (r .1) (r .5))
 
   once-at : (w : ℕ) → w < nodes t → is w 0 + count w t ≤ 1
@@ -144,7 +139,7 @@ module _ (t : List ℕ) (f : Forest) (even : length t ≡ 2 * nodes t) (N : Numb
         sumOver-upTo (names t w) (nodes t),
         sumOver-same (names t w) (nodes t) (upTo (nodes t)) (preorder f) (below-upTo (nodes t)) (N .below)
             (λ x k. count-upTo (nodes t) x k ∙ sym (N .each x k)),
-        named-in t w (omega (arith, N .few)) f a,
+        named-in t w (omega arith) f a,
         ap (is w) (N .root),
         N .each w h,
       )
@@ -152,14 +147,14 @@ module _ (t : List ℕ) (f : Forest) (even : length t ≡ 2 * nodes t) (N : Numb
   stands-passed : Passed t
   stands-passed =
       record {
-        size = length-good t (omega (arith, even), omega (arith, even, N .some), omega (arith, even, N .few));
+        size = length-good t (omega arith, omega arith, omega arith);
         entries = named-entries t (at-all (Names (nodes t)) t none entry-at);
         root = alone-root t (next f (N .root) (N .alone) a);
         named = once-named t (N .some) once-at;
       }
     where
       next : (f : Forest) → entry f ≡ 0 → siblings f ≡ nil → Agrees t f → nextSibling t 0 ≡ none
-      next nil r s a = absurd (omega (arith, r))
+      next nil r s a = absurd (omega arith)
       next (node v g h) r s a = ap (nextSibling t) (sym r) ∙ a .1 ∙ ap entry s
 
   pub stands-tree : treeOf t ≡ f

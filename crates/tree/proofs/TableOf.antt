@@ -39,7 +39,7 @@ module _ (first second : ℕ → ℕ) where
   row-entry (suc n) v k h hk =
       ap (λ (l : List ℕ). getD l (2 * v + k) none) (rows-suc n)
       ∙ ⊎-elim (λ s.
-      ap (λ (i : ℕ). getD (rows n ++ (first n ∷ second n ∷ [])) i none) (omega (arith, s .0, length-rows n))
+      ap (λ (i : ℕ). getD (rows n ++ (first n ∷ second n ∷ [])) i none) (omega (arith, length-rows n))
       ∙ getD-append-add (rows n) (first n ∷ second n ∷ []) k none
       ∙ ap (λ (w : ℕ). getD (first w ∷ second w ∷ []) k none) (sym (s .0)))
       (λ s.
@@ -72,8 +72,8 @@ same-rows n t u lt lu same = ext-getD none t u (lt ∙ sym lu) each
         at k e p = ap (λ (j : ℕ). getD t j none) e ∙ p ∙ ap (λ (j : ℕ). getD u j none) (sym e)
 
         go : (r : ℕ) → i % 2 ≡ r → getD t i none ≡ getD u i none
-        go zero e = at (2 * (i / 2)) (omega arith) (same (i / 2) (omega (arith, lt)) .0)
-        go (suc r) e = at (2 * (i / 2) + 1) (omega arith) (same (i / 2) (omega (arith, lt)) .1)
+        go zero e = at (2 * (i / 2)) (omega arith) (same (i / 2) (omega arith) .0)
+        go (suc r) e = at (2 * (i / 2) + 1) (omega arith) (same (i / 2) (omega arith) .1)
 
 -- ---- the table of a tree
 

@@ -1,6 +1,6 @@
 -- A test that some element of a list passes, the same said of every element, and the members of a list of numbers. Assumes nothing.
 use mathlib.Core.Path.{_≡_, refl, sym, ap, _∙_, subst}
-use mathlib.Core.Logic.{_⊎_, ⊎-elim}
+use mathlib.Core.Logic.{⊎-elim}
 use mathlib.Core.Bool.{Bool, true, false, _||_, true≢false}
 use mathlib.Core.List.{List, [], _∷_, _++_}
 use Prim.Native.Nat.{ℕ, zero, suc, _≤_, _<_}
@@ -64,7 +64,7 @@ pub member-none : (x : ℕ) (l : List ℕ) → member x l ≡ false → count x 
 member-none x [] e = refl
 member-none x (y ∷ l) e =
     ⊎-elim (λ s. absurd (true≢false (sym (eq-eqb x y (s .0)) ∙ or-false-left (eqb x y) (member x l) e)))
-    (λ s. omega (arith, s .1, member-none x l (or-false-right (eqb x y) (member x l) e)))
+    (λ s. omega (arith, member-none x l (or-false-right (eqb x y) (member x l) e)))
     (is-cases x y)
 
 pub count-member : (x : ℕ) (l : List ℕ) → 1 ≤ count x l → member x l ≡ true

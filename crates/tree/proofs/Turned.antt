@@ -83,7 +83,7 @@ module _ (t : List ℕ) (accepted : tableNumber t ≡ 0) where
       record {
         size = length-set out 1 none ∙ e;
         within = omega arith;
-        root = getD-set-same out 1 none none (omega (arith, L .even, L .some));
+        root = getD-set-same out 1 none none (omega (arith, L .some));
         first = λ u h. absurd (omega arith);
         closed = λ u h. absurd (omega arith);
         back = λ u h. absurd (omega arith);
@@ -106,7 +106,7 @@ module _ (t : List ℕ) (accepted : tableNumber t ≡ 0) where
     length₂ = pointed-length (firstChild t v) none out₁ ∙ length₁
 
     pub room₁ : 2 * v < length out
-    room₁ = omega (arith, T .size, L .even)
+    room₁ = omega arith
 
     pub room₂ : (firstChild t v ≡ none → ⊥) → 2 * firstChild t v + 1 < length out₁
     room₂ d = ⊎-elim (λ h. omega (arith, length₁, L .even)) (λ h. absurd (d h)) (L .child v inside)
@@ -127,8 +127,8 @@ module _ (t : List ℕ) (accepted : tableNumber t ≡ 0) where
     other : (i : ℕ) → i < length t → (i ≡ 2 * v → ⊥) → (i ≡ 2 * v + 1 → ⊥) → getD t i none < nodes t
         → nextSibling out₃ (getD t i none) ≡ nextSibling out (getD t i none)
     other i h p q n =
-        kept (getD t i none) (λ e. p (apart t L i (2 * v) h (omega (arith, L .even)) n e))
-        (λ e. q (apart t L i (2 * v + 1) h (omega (arith, L .even)) n e))
+        kept (getD t i none) (λ e. p (apart t L i (2 * v) h (omega arith) n e))
+        (λ e. q (apart t L i (2 * v + 1) h (omega arith) n e))
 
     first : (u : ℕ) → firstChild out₃ u ≡ firstChild out₁ u
     first u = pointed-first (nextSibling t v) v out₂ u ∙ pointed-first (firstChild t v) none out₁ u
@@ -136,7 +136,7 @@ module _ (t : List ℕ) (accepted : tableNumber t ≡ 0) where
     closed : firstChild t v < nodes t → nextSibling out₃ (firstChild t v) ≡ none
     closed h =
         pointed-other (nextSibling t v) v out₂ (firstChild t v)
-        (λ e. omega (arith, apart t L (2 * v) (2 * v + 1) (omega (arith, L .even)) (omega (arith, L .even)) h e))
+        (λ e. omega (arith, apart t L (2 * v) (2 * v + 1) (omega arith) (omega arith) h e))
         ∙ pointed-same (firstChild t v) none out₁ (some h) (room₂ (some h))
 
     back : nextSibling t v < nodes t → nextSibling out₃ (nextSibling t v) ≡ v
@@ -150,7 +150,7 @@ module _ (t : List ℕ) (accepted : tableNumber t ≡ 0) where
         record {
           size = pointed-length (nextSibling t v) v out₂ ∙ length₂;
           within = omega arith;
-          root = kept 0 (not-root t L (2 * v) (omega (arith, L .even))) (not-root t L (2 * v + 1) (omega (arith, L .even))) ∙ T .root;
+          root = kept 0 (not-root t L (2 * v) (omega arith)) (not-root t L (2 * v + 1) (omega arith)) ∙ T .root;
           first = λ u h.
               ⊎-elim (λ s. subst (λ (x : ℕ). firstChild out₃ x ≡ lastChild t x) (sym (s .0))
               (first v ∙ getD-set-same out (2 * v) (lastChild t v) none room₁))
@@ -159,13 +159,13 @@ module _ (t : List ℕ) (accepted : tableNumber t ≡ 0) where
           closed = λ u h.
               ⊎-elim (λ s. subst (λ (x : ℕ). firstChild t x < nodes t → nextSibling out₃ (firstChild t x) ≡ none) (sym (s .0)) closed)
               (λ s n.
-              other (2 * u) (omega (arith, L .even)) (λ p. s .0 (omega arith)) (λ p. omega arith) n
+              other (2 * u) (omega arith) (λ p. s .0 (omega arith)) (λ p. omega arith) n
               ∙ T .closed u (earlier h (s .0)) n)
               (is-cases u v);
           back = λ u h.
               ⊎-elim (λ s. subst (λ (x : ℕ). nextSibling t x < nodes t → nextSibling out₃ (nextSibling t x) ≡ x) (sym (s .0)) back)
               (λ s n.
-              other (2 * u + 1) (omega (arith, L .even)) (λ p. omega arith) (λ p. s .0 (omega arith)) n
+              other (2 * u + 1) (omega arith) (λ p. omega arith) (λ p. s .0 (omega arith)) n
               ∙ T .back u (earlier h (s .0)) n)
               (is-cases u v);
         }
@@ -187,8 +187,7 @@ module _ (t : List ℕ) (accepted : tableNumber t ≡ 0) where
       first-order = P₂ ∙ ap₂ (λ (e x : ℕ). pointed e none (set out (2 * v) x)) (first-read t accepted v inside) F
 
       pub second-room : (getD t (2 * v + 1) 0 ≡ none → ⊥) → 2 * getD t (2 * v + 1) 0 + 1 < length o₂
-      second-room d =
-          omega (arith, second-read t accepted v inside, room₃ (λ e. d (second-read t accepted v inside ∙ e)), ap length first-order)
+      second-room d = omega (arith, second-read t accepted v inside, room₃ (λ e. d (second-read t accepted v inside ∙ e)), ap length first-order)
 
       pub turn-row : (o₃ : List ℕ) → o₃ ≡ pointed (getD t (2 * v + 1) 0) v o₂ → Turning t o₃ (v + 1)
       turn-row o₃ P₃ =

@@ -1,7 +1,7 @@
 -- Levels and tree order: what is read off the tree of an accepted table is what the level-by-level walk of the table meets. Assumes nothing.
 use mathlib.Core.Path.{_≡_, refl, sym, ap, ap₂, _∙_}
-use mathlib.Core.List.{List, [], _∷_, _++_, append-assoc}
-use Prim.Native.Nat.{ℕ, zero, suc, _+_, _≤_, _<_}
+use mathlib.Core.List.{List, [], _∷_, _++_}
+use Prim.Native.Nat.{ℕ, zero, suc, _≤_, _<_}
 use native.Mathlib.Nat.{not-suc-le-zero}
 use native.Mathlib.Omega.{arith}
 use Rattle.tree.specs.Numbers.{flatMap}
@@ -89,5 +89,5 @@ accepted-walk t e =
     ∙ walk-levels t (nodes t) (treeOf t) (accepted-leads t e) (omega (arith, accepted-size t e))
   where
     root : (f : Forest) → entry f ≡ 0 → siblings f ≡ nil → roots f ≡ 0 ∷ []
-    root nil e s = absurd (omega (arith, e))
+    root nil e s = absurd (omega arith)
     root (node v f g) e s = ap₂ (λ (x : ℕ) (l : List ℕ). x ∷ l) e (ap roots s)

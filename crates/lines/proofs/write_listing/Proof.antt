@@ -54,7 +54,7 @@ write-nodes-requires : tie.Need-write-nodes-requires
 write-nodes-requires c κs =
     let first = c .before .before .before in
     let order = in-order (first .before .before) in
-    ((order .nodes, order .levels-enough, order .places-enough, order .tapes-enough), omega (arith, order, first .write-sheet-line .ensures .within, first .write-sheet-line .kept .1 .1 .1 .1 .1 .0))
+    ((order .nodes, order .levels-enough, order .places-enough, order .tapes-enough), omega arith)
 
 same-length : tie.Need-same-length
 same-length c = search needs
@@ -67,7 +67,7 @@ returns-2 c =
     let order = in-order (first .before .before) in
     let a = s .args in
     let all = put-then {b = nodeLines (a .nodes) (a .levels .now) (a .places .now) (a .tapes .now)} (put-as (extremes s) (first .write-sheet-line .ensures .put)) (nodes .write-nodes .ensures .put) in
-    printed (holds (first .before .before)) (omega (arith, order, all .place, first .write-sheet-line .ensures .within, nodes .write-nodes .ensures .within)) all
+    printed (holds (first .before .before)) (omega arith) all
 
 pub write-listing-spec : {M : Type 1} → statement M
 write-listing-spec =

@@ -12,7 +12,7 @@ use Rattle.lines.proofs.write_refusal.Statement.{statement}
 use Rattle.lines.proofs.write_refusal.Tie as tie
 
 room : (c : tie.Else1) → Room 0 (refusedLine (c .before .before .args .number)) (c .before .before .args .out .now)
-room c = record { fits = omega (arith, c .if1 .left, refused-line-size (c .before .before .args .number) (c .before .before .fits .number .fits)) }
+room c = record { fits = omega (arith, refused-line-size (c .before .before .args .number) (c .before .before .fits .number .fits)) }
 
 returns : tie.Need-returns
 returns c = not-printed _ (lt-leb _ _ (c .if1 .taken))

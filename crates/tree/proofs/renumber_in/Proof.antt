@@ -47,12 +47,7 @@ module _ (p : tie.Else3) where
   before = p .before .before
 
   order-room : nodes (start before .args .table .now) ≤ length (before .before .before .before .judge .last .1 .0)
-  order-room =
-      omega (
-        arith,
-        start before .pre .enough (passed (start before .args .table .now) (accepted before) .size),
-        before .before .before .before .judge .kept .1 .0,
-      )
+  order-room = omega (arith, start before .pre .enough (passed (start before .args .table .now) (accepted before) .size))
 
   out-room : length (start before .args .table .now) ≤ length (start before .args .out .now)
   out-room = p .before .if2 .left

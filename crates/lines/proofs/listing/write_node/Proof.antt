@@ -83,7 +83,7 @@ returns c =
     let level = place .before .before .before .before in
     let node = level .before .before .before .before in
     let all = put-then (node .write-number .ensures) (put-then (level .write-number2 .ensures) (put-then (place-put place) (tape .write-number3 .ensures))) in
-    record { put = all; within = omega (arith, all .place, size (node .before .before .before)) }
+    record { put = all; within = omega (arith, size (node .before .before .before)) }
 
 pub write-node-spec : {M : Type 1} → statement M
 write-node-spec =

@@ -59,7 +59,7 @@ loop-again c =
     let a = head .before .before .before .before .args in
     let put = written .write-node .ensures in (
       omega arith,
-      omega (arith, put .within),
+      omega arith,
       written .write-node .kept .1 .1 .1 .1 .0 ∙ head .loop .inv .2,
       node-more (head .loop .node) (a .levels .now) (a .places .now) (a .tapes .now) (head .loop .inv .3) refl
           (toZ-ofZ w32 _ (record { sfits = copied .place .given })) (joined .tape-number .ensures) (put .put),

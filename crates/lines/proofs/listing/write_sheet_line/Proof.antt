@@ -126,7 +126,7 @@ returns c =
     (put-then (separation .write-number3 .ensures)
     (put-then (least-put least) (greatest-put greatest)))))
     in
-    record { put = all; within = omega (arith, all .place, size (word .before .before .before .before)) }
+    record { put = all; within = omega (arith, size (word .before .before .before .before)) }
 
 pub write-sheet-line-spec : {M : Type 1} → statement M
 write-sheet-line-spec =

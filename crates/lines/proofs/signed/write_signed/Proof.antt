@@ -45,7 +45,7 @@ is-negative-requires : tie.Need-is-negative-requires
 is-negative-requires c κs = search needs
 
 slice-write-out : tie.Need-slice-write-out
-slice-write-out c = omega (arith, c .before .before .before .pre .fits, ap length (negative c _ refl))
+slice-write-out c = omega (arith, ap length (negative c _ refl))
 
 magnitude-requires : tie.Need-magnitude-requires
 magnitude-requires c κs = search needs

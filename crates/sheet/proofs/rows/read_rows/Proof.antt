@@ -20,7 +20,7 @@ abbrev μ-loop : tie.MeasureT-loop
 μ-loop file nodes table₀ tapes₀ place₀ first₀ table tapes place first = nodes - first
 
 first-of : (c : tie.In-loop Inv-loop μ-loop) → c .before .loop .first ≡ blockRows * c .before .loop .place
-first-of c = omega (arith, c .before .loop .inv .0, c .loop-test .taken)
+first-of c = omega arith
 
 begun : (c : tie.In-loop Inv-loop μ-loop) → blockRows * c .before .loop .place < c .before .before .before .before .before .args .nodes
 begun c = omega (arith, first-of c)
@@ -80,10 +80,10 @@ read-block-requires c κs =
     let head = c .before .before .before .before .before in
     let start = 2 * head .loop .first in
     let few = c .before .before .before .rows-in .ensures in (
-      ((c .before .before .block-at .ensures .size, omega (arith, few))),
+      ((c .before .before .block-at .ensures .size, omega arith)),
       (
-        omega (arith, few, first-of (c .before .before .before .before), table-length head, length-rest (head .loop .table) start),
-        omega (arith, few, first-of (c .before .before .before .before), tapes-length head, length-rest (head .loop .tapes) start),
+        omega (arith, first-of (c .before .before .before .before), table-length head, length-rest (head .loop .table) start),
+        omega (arith, first-of (c .before .before .before .before), tapes-length head, length-rest (head .loop .tapes) start),
       ),
     )
 
@@ -110,9 +110,9 @@ loop-again c =
     let block = c .before .before .before .before .before .before .before .block-at .ensures .bytes in
     let read = c .before .before .before .before .read-block .ensures in (
       rw (first, rows) (rows-end (a .nodes) (head .loop .place) (begun turn)),
-      read-more (a .file .now) 0 (head .loop .place) _ (head .loop .first) _ (a .table .now) (head .loop .table) _ (omega (arith, rows)) first (omega arith) block
+      read-more (a .file .now) 0 (head .loop .place) _ (head .loop .first) _ (a .table .now) (head .loop .table) _ (omega arith) first (omega arith) block
           (head .loop .inv .1) (read .table-after),
-      read-more (a .file .now) 2 (head .loop .place) _ (head .loop .first) _ (a .tapes .now) (head .loop .tapes) _ (omega (arith, rows)) first (omega arith) block
+      read-more (a .file .now) 2 (head .loop .place) _ (head .loop .first) _ (a .tapes .now) (head .loop .tapes) _ (omega arith) first (omega arith) block
           (head .loop .inv .2) (read .tapes-after),
     )
 
@@ -124,7 +124,7 @@ same-length-2 c = tapes-length (c .before)
 
 returns : tie.Need-returns Inv-loop μ-loop
 returns c =
-    let all : c .before .loop .first ≡ c .before .before .before .before .before .args .nodes = omega (arith, c .before .loop .inv .0, c .loop-test .left) in
+    let all : c .before .loop .first ≡ c .before .before .before .before .before .args .nodes = omega arith in
     record { table-after = rw (← all) (c .before .loop .inv .1); tapes-after = rw (← all) (c .before .loop .inv .2) }
 
 pub read-rows-spec : {M : Type 1} → statement M

@@ -78,7 +78,7 @@ module _ (c : tie.Else6) where
 
 -- a refusal promises nothing of the order
 refused : (t : List ℕ) (k : ℕ) (order : List ℕ) → tableNumber t ≡ suc k → Judged t (suc k) order
-refused t k order e = record { number = sym e; order = λ z. absurd (omega (arith, z)) }
+refused t k order e = record { number = sym e; order = λ z. absurd (omega arith) }
 
 returns : tie.Need-returns
 returns c =
@@ -132,7 +132,7 @@ returns-5 : tie.Need-returns-5
 returns-5 c =
     let visited = c .before .before .before in
     let p = visited .before .before in
-    refused (table (first p)) 4 _ (number-5 (table (first p)) (passed p) (omega (arith, visited .preorder .ensures .reached, c .if7 .taken)))
+    refused (table (first p)) 4 _ (number-5 (table (first p)) (passed p) (omega arith))
 
 same-length-2 : tie.Need-same-length-2
 same-length-2 c = search needs
@@ -147,7 +147,7 @@ returns-6 c =
     let p = visited .before .before in
     let t = table (first p) in
     let v = visited .preorder .ensures in
-    let all : visited .preorder .result ≡ nodes t = omega (arith, v .reached, tree-size t (linked t (passed p)), c .if7 .left) in
+    let all : visited .preorder .result ≡ nodes t = omega (arith, tree-size t (linked t (passed p))) in
     record {
       number = sym (number-0 t (passed p) (sym (v .reached) ∙ all));
       order = λ e. in-front t (visited .preorder .last .1 .0) _ (nodes t) (visited .preorder .result) v all

@@ -54,7 +54,7 @@ mul-v : tie.Need-mul-v Inv-loop μ-loop
 mul-v c = search needs
 
 slice-read-v : tie.Need-slice-read-v Inv-loop μ-loop
-slice-read-v c = omega (arith, c .before .before .loop .inv .size)
+slice-read-v c = omega arith
 
 -- in a turn of the loop
 module _ (p : tie.In-loop Inv-loop μ-loop) where
@@ -92,7 +92,7 @@ module _ (p : tie.In-loop Inv-loop μ-loop) where
   count-inside = visit-count (table start) (links start) order low count visiting left
 
   count-few : count < 1024
-  count-few = omega (arith, count-inside, visiting .size, links start .few)
+  count-few = omega (arith, links start .few)
 
 cast-row : tie.Need-cast-row Inv-loop μ-loop
 cast-row c = omega (arith, node-few (c .before))
@@ -155,13 +155,13 @@ loop-again c =
     (c .before .before .push2 .result) (c .before .before .push2 .last .0) (c .before .before .push2 .ensures)
 
 same-length : tie.Need-same-length Inv-loop μ-loop
-same-length c = omega (arith, c .before .loop .inv .size, c .before .before .before .before .pre .1)
+same-length c = omega arith
 
 returns : tie.Need-returns Inv-loop μ-loop
 returns c =
     let s = c .before .before .before .before in
     let p = c .before .loop in
-    let e = visit-end (table s) (links s) (p .order) (p .low) (p .count) (p .inv) (omega (arith, c .loop-test .left, s .pre .1)) in
+    let e = visit-end (table s) (links s) (p .order) (p .low) (p .count) (p .inv) (omega arith) in
     record { reached = e .0; order = e .1 }
 
 pub preorder-spec : {M : Type 1} → statement M

@@ -11,7 +11,7 @@ use Rattle.tree.proofs.judge.scan_marked.Tie as tie
 
 zeros : (n k : ℕ) → n ≤ k → Unmarked n (replicate k 0)
 zeros n k h =
-    record { enough = omega (arith, length-replicate {A = ℕ} k 0); clear = λ v l. getD-replicate {A = ℕ} k v 0 0 (omega (arith, l)) }
+    record { enough = omega (arith, length-replicate {A = ℕ} k 0); clear = λ v l. getD-replicate {A = ℕ} k v 0 0 (omega arith) }
 
 slice-aggregate-scan : tie.Need-slice-aggregate-scan
 slice-aggregate-scan c = search needs
@@ -19,7 +19,7 @@ slice-aggregate-scan c = search needs
 scan-requires : tie.Need-scan-requires
 scan-requires c κs =
     let s = c .before .before .before in
-    (s .pre, zeros (nodes (s .args .table .now)) 64 (omega (arith, c .before .if1 .taken)))
+    (s .pre, zeros (nodes (s .args .table .now)) 64 (omega arith))
 
 returns : tie.Need-returns
 returns c = search needs

@@ -40,7 +40,7 @@ loop-again c =
     copy-next (c .before .before .before .args .old .now) (p .map) (p .k) (p .inv) (c .before .loop-test .taken)
 
 same-length : tie.Need-same-length Inv-loop μ-loop
-same-length c = omega (arith, c .before .loop .inv .size, c .before .before .pre)
+same-length c = omega arith
 
 returns : tie.Need-returns Inv-loop μ-loop
 returns c =

@@ -26,7 +26,7 @@ cast-v : tie.Need-cast-v Inv-loop μ-loop
 cast-v c = omega (arith, c .shared-slice-known .given (c .before .before .loop .k))
 
 cast-new : tie.Need-cast-new Inv-loop μ-loop
-cast-new c = omega (arith, c .before .before .before .pre .few)
+cast-new c = omega arith
 
 mul-new : tie.Need-mul-new Inv-loop μ-loop
 mul-new c = omega (arith, c .shared-slice-known .given (c .before .before .loop .k))

@@ -129,7 +129,7 @@ loop-again c =
     row (turn c) .next (c .before .before .rename .result) (c .rename2 .result) (c .before .before .rename .ensures) (c .rename2 .ensures)
 
 same-length : tie.Need-same-length Inv-loop μ-loop
-same-length c = omega (arith, c .before .loop .inv .size, c .before .before .before .before .before .before .pre)
+same-length c = omega arith
 
 returns : tie.Need-returns Inv-loop μ-loop
 returns c =

@@ -34,7 +34,7 @@ link-requires c κs =
         s .pre .1 .0,
         (
           p .invert .ensures,
-          (omega (arith, p .invert .kept .1 .0, accepted-linked (s .args .table .now) (s .pre .0) .few), s .pre .1 .1 .0),
+          (omega (arith, accepted-linked (s .args .table .now) (s .pre .0) .few), s .pre .1 .1 .0),
         ),
       ),
     )

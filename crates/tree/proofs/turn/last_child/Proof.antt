@@ -29,7 +29,7 @@ module _ (p : tie.Start Inv-loop μ-loop) where
   accepted = p .pre .0
 
   few : v < 1024
-  few = omega (arith, accepted-linked table accepted .few, p .pre .1)
+  few = omega (arith, accepted-linked table accepted .few)
 
 mul-next : tie.Need-mul-next Inv-loop μ-loop
 mul-next c = omega (arith, few c)

@@ -27,12 +27,7 @@ module _ (p : tie.Start Inv-loop μ-loop) where
 slice-write-out : tie.Need-slice-write-out Inv-loop μ-loop
 slice-write-out c =
     let p = c .before .before in
-    omega (
-      arith,
-      first-inside (table p) (accepted p) 0 (accepted-linked (table p) (accepted p) .some),
-      accepted-linked (table p) (accepted p) .even,
-      p .pre .1,
-    )
+    omega (arith, first-inside (table p) (accepted p) 0 (accepted-linked (table p) (accepted p) .some), accepted-linked (table p) (accepted p) .even)
 
 loop-holds : tie.Need-loop-holds Inv-loop μ-loop
 loop-holds c =
@@ -48,7 +43,7 @@ module _ (p : tie.In-loop Inv-loop μ-loop) where
   v = p .before .loop .v
 
   few : v < 1024
-  few = omega (arith, accepted-linked (table start) (accepted start) .few, p .loop-test .taken)
+  few = omega (arith, accepted-linked (table start) (accepted start) .few)
 
 mul-row : tie.Need-mul-row Inv-loop μ-loop
 mul-row c = omega (arith, few c)
@@ -113,8 +108,7 @@ add-v : tie.Need-add-v Inv-loop μ-loop
 add-v c = omega (arith, few (ending c))
 
 loop-less : tie.Need-loop-less Inv-loop μ-loop
-loop-less c =
-    omega (arith, ending c .loop-test .taken)
+loop-less c = omega (arith, ending c .loop-test .taken)
 
 loop-again : tie.Need-loop-again Inv-loop μ-loop
 loop-again c =
@@ -125,12 +119,12 @@ loop-again c =
     (c .before .before .point2 .last .0) (c .before .before .point2 .ensures)
 
 same-length : tie.Need-same-length Inv-loop μ-loop
-same-length c = omega (arith, c .before .loop .inv .size, c .before .before .before .before .pre .1)
+same-length c = omega arith
 
 returns : tie.Need-returns Inv-loop μ-loop
 returns c =
     let p = c .before .before .before .before in
-    let all : c .before .loop .v ≡ nodes (table p) = omega (arith, c .before .loop .inv .within, c .loop-test .left) in
+    let all : c .before .loop .v ≡ nodes (table p) = omega arith in
     turn-end (table p) (c .before .loop .out) (subst (Turning (table p) (c .before .loop .out)) all (c .before .loop .inv)) (accepted p)
 
 pub turn-spec : {M : Type 1} → statement M
