@@ -2,16 +2,16 @@
 use mathlib.Core.Path.{_≡_, refl, sym, ap, ap₂, _∙_}
 use mathlib.Core.Logic.{_⊎_, inl, inr}
 use mathlib.Core.Bool.{Bool, true, false, cond, not, _||_, _&&_}
-use mathlib.Core.List.{List, [], _∷_, _++_, append-assoc}
-use Prim.Native.Nat.{ℕ, zero, suc, _+_, _*_, _≤_, _<_}
+use mathlib.Core.List.{List, [], _∷_, _++_}
+use Prim.Native.Nat.{ℕ, _*_, _≤_, _<_}
 use native.Mathlib.Omega.{arith}
 use lib.Dec.{ltb, leb}
 use lib.IntN.{ℤ, pos}
-use lib.ListN.{length, take, drop, replicate, length-replicate, length-map, take-append-drop}
-use lib.Seq.{length-take-le, drop-append-le}
+use lib.ListN.{length, take, drop, replicate, length-replicate, length-map}
 use borrow.Author.Tests.{ltb-false, leb-true, lt-ltb, le-ltb, le-leb, lt-leb, not-false}
 use Rattle.refusal.specs.First.{_⇐_}
-use Rattle.refusal.specs.After.{granted, overwrite, after}
+use Rattle.refusal.specs.After.{overwrite, after}
+use Rattle.refusal.proofs.After.{granted-accepted, granted-refused, after-accepted, after-refused, overwrite-split, overwrite-front}
 use Rattle.refusal.proofs.Laws.{first-refused, first-passed, first-none, none-first}
 use Rattle.tree.specs.Numbers.{upTo}
 use Rattle.tree.specs.Table.{nodes}
@@ -19,7 +19,7 @@ use Rattle.tree.specs.Levels.{Pair, level, neighbours, levelCount}
 use Rattle.tree.specs.WellFormed.{tableConditions, tableNumber}
 use Rattle.refusal.proofs.Truth.{or-false-left, or-false-right, or-false, or-true, and-left, and-right}
 use Rattle.rule.specs.Record.{SamePairs, flat}
-use Rattle.rule.specs.Result.{Slices, badSeparation, shortResults, shortWork, layoutNumber, placesOf, levelsOf, leastOf, greatestOf, place, Layout}
+use Rattle.rule.specs.Result.{Slices, badSeparation, shortResults, shortWork, layoutNumber, placesOf, levelsOf, place, Layout}
 use Rattle.rule.proofs.Promises.{neighbours-count}
 use Rattle.layout.specs.Operation.{slices, answer}
 use Rattle.second_walk.specs.LastPass.{Settled}
@@ -128,37 +128,6 @@ module _ (t : List ℕ) (D : ℕ) (s : Slices) where
 same-pairs : (ps : List Pair) → SamePairs ps ps
 same-pairs ps = record { many = refl; each = λ a b. refl }
 
--- a refusal gives 0 and leaves a slice as it is
-module _ {A : Type 0} where
-  granted-refused : (k : ℕ) (x y : A) → (k ≡ 0 → ⊥) → y ≡ granted k x y
-  granted-refused zero x y d = absurd (d refl)
-  granted-refused (suc k) x y d = refl
-
-  after-refused : (k : ℕ) (new old : List A) → (k ≡ 0 → ⊥) → old ≡ after k new old
-  unfolding after
-  after-refused zero new old d = absurd (d refl)
-  after-refused (suc k) new old d = refl
-
-  -- an acceptance gives the field, and writes in front
-  granted-taken : (k : ℕ) (x y z : A) → k ≡ 0 → z ≡ x → z ≡ granted k x y
-  granted-taken k x y z e f = f ∙ sym (ap (λ (j : ℕ). granted j x y) e)
-
-  after-taken : (k n : ℕ) (new old front : List A) → k ≡ 0 → length new ≡ n → front ≡ new → front ++ drop n old ≡ after k new old
-  unfolding after overwrite
-  after-taken k n new old front e l f =
-      ap (λ (m : List A). m ++ drop n old) f
-      ∙ ap (λ (j : ℕ). new ++ drop j old) (sym l)
-      ∙ sym (ap (λ (j : ℕ). after j new old) e)
-
-  -- a part that is written in front, and what stands behind the part
-  after-part : (k n : ℕ) (new old : List A) → k ≡ 0 → length new ≤ n → n ≤ length old → overwrite new (take n old) ++ drop n old ≡ after k new old
-  unfolding after overwrite
-  after-part k n new old e l h =
-      append-assoc new (drop (length new) (take n old)) (drop n old)
-      ∙ ap (λ (m : List A). new ++ m)
-      (sym (drop-append-le (length new) (take n old) (drop n old) (omega (arith, length-take-le n old h))) ∙ ap (drop (length new)) (take-append-drop n old))
-      ∙ sym (ap (λ (j : ℕ). after j new old) e)
-
 -- there is a place and a level for each node
 pub length-places : (D : ℕ) (t : List ℕ) → length (placesOf D t) ≡ nodes t
 unfolding placesOf
@@ -171,21 +140,19 @@ length-levels t = length-map (upTo (nodes t)) (level t) ∙ length-upTo (nodes t
 module _ (t : List ℕ) (D : ℕ) (s : Slices) where
   pub layout-refused : (k : ℕ) → k ≡ layoutNumber t D s → (k ≡ 0 → ⊥) → Layout t D s (answer k 0 0 (pos 0) (pos 0) 0) s
   layout-refused k e d =
+      let refused : layoutNumber t D s ≡ 0 → ⊥ = λ z. d (e ∙ z) in
       record {
         number = e;
-        nodes = granted-refused (layoutNumber t D s) (nodes t) 0 d′;
-        levelCount = granted-refused (layoutNumber t D s) (levelCount t) 0 d′;
-        least = granted-refused (layoutNumber t D s) (leastOf (placesOf D t)) (pos 0) d′;
-        greatest = granted-refused (layoutNumber t D s) (greatestOf (placesOf D t)) (pos 0) d′;
-        pairs = granted-refused (layoutNumber t D s) (length (neighbours t)) 0 d′;
-        places = after-refused (layoutNumber t D s) (placesOf D t) (s .places) d′;
-        levels = after-refused (layoutNumber t D s) (levelsOf t) (s .levels) d′;
-        theRecord = (neighbours t, same-pairs (neighbours t), after-refused (layoutNumber t D s) (flat (neighbours t)) (s .theRecord) d′);
-        work = after-refused (layoutNumber t D s) (replicate (16 * nodes t) (pos 0)) (s .work) d′;
+        nodes = rw granted-refused;
+        levelCount = rw granted-refused;
+        least = rw granted-refused;
+        greatest = rw granted-refused;
+        pairs = rw granted-refused;
+        places = rw after-refused;
+        levels = rw after-refused;
+        theRecord = (neighbours t, same-pairs (neighbours t), rw after-refused);
+        work = rw after-refused;
       }
-    where
-      d′ : layoutNumber t D s ≡ 0 → ⊥
-      d′ z = d (e ∙ z)
 
   module _ (zero-number : layoutNumber t D s ≡ 0) where
     abbrev T : Taken t D s
@@ -196,12 +163,9 @@ module _ (t : List ℕ) (D : ℕ) (s : Slices) where
 
     work-after : (ws : List ℤ) → drop (16 * nodes t) ws ≡ drop (16 * nodes t) (s .work)
         → overwrite (replicate (16 * nodes t) (pos 0)) ws ≡ after (layoutNumber t D s) (replicate (16 * nodes t) (pos 0)) (s .work)
-    unfolding overwrite
     work-after ws e =
-        ap (λ (k : ℕ). replicate (16 * nodes t) (pos 0) ++ drop k ws) (length-replicate (16 * nodes t) (pos 0))
-        ∙ ap (λ (l : List ℤ). replicate (16 * nodes t) (pos 0) ++ l) e
-        ∙ after-taken (layoutNumber t D s) (16 * nodes t) (replicate (16 * nodes t) (pos 0)) (s .work) (replicate (16 * nodes t) (pos 0)) zero-number
-        (length-replicate (16 * nodes t) (pos 0)) refl
+        let cleared = length-replicate (16 * nodes t) (pos 0) in
+        rw (after-accepted, overwrite-split (16 * nodes t) (replicate (16 * nodes t) (pos 0)) ws cleared, overwrite-split (16 * nodes t) (replicate (16 * nodes t) (pos 0)) (s .work) cleared, e)
 
     -- the last pass over the fronts of the slices, and then the working slice cleared
     pub layout-accepted : (ps : List ℤ) (ls rs : List ℕ) (ws ws′ wend : List ℤ) (k : ℕ) (low high : ℤ) (many : ℕ)
@@ -213,18 +177,17 @@ module _ (t : List ℕ) (D : ℕ) (s : Slices) where
     layout-accepted ps ls rs ws ws′ wend k low high many S e f =
         record {
           number = sym zero-number;
-          nodes = granted-taken (layoutNumber t D s) (nodes t) 0 (nodes t) zero-number refl;
-          levelCount = granted-taken (layoutNumber t D s) (levelCount t) 0 k zero-number (S .levelCount);
-          least = granted-taken (layoutNumber t D s) (leastOf (placesOf D t)) (pos 0) low zero-number (S .least);
-          greatest = granted-taken (layoutNumber t D s) (greatestOf (placesOf D t)) (pos 0) high zero-number (S .greatest);
-          pairs = granted-taken (layoutNumber t D s) (length (neighbours t)) 0 many zero-number (S .pairs);
-          places = after-taken (layoutNumber t D s) (nodes t) (placesOf D t) (s .places) ps zero-number (length-places D t) (S .places);
-          levels = after-taken (layoutNumber t D s) (nodes t) (levelsOf t) (s .levels) ls zero-number (length-levels t) (S .levels);
+          nodes = rw granted-accepted;
+          levelCount = rw granted-accepted (S .levelCount);
+          least = rw granted-accepted (S .least);
+          greatest = rw granted-accepted (S .greatest);
+          pairs = rw granted-accepted (S .pairs);
+          places = rw (S .places, after-accepted, overwrite-split (nodes t) (placesOf D t) (s .places) (length-places D t));
+          levels = rw (S .levels, after-accepted, overwrite-split (nodes t) (levelsOf t) (s .levels) (length-levels t));
           theRecord = (
             neighbours t,
             same-pairs (neighbours t),
-            ap (λ (l : List ℕ). l ++ drop (2 * nodes t) (s .theRecord)) (S .measured)
-                ∙ after-part (layoutNumber t D s) (2 * nodes t) (flat (neighbours t)) (s .theRecord) zero-number room (T .measured),
+            rw (S .measured, after-accepted) (overwrite-front (2 * nodes t) (flat (neighbours t)) (s .theRecord) room (T .measured)),
           );
           work = f ∙ work-after ws′ (S .rest ∙ e);
         }

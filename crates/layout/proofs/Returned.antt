@@ -9,6 +9,7 @@ use lib.IntN.{ℤ, pos, _+ℤ_}
 use lib.ListN.{length, getD, drop, length-map, List·getD-append}
 use lib.Signed.{_≤ℤ_}
 use Rattle.refusal.specs.After.{granted, overwrite, after}
+use Rattle.refusal.proofs.After.{granted-accepted, after-accepted}
 use Rattle.tree.specs.Numbers.{upTo, flatMap}
 use Rattle.tree.specs.Table.{nodes}
 use Rattle.tree.specs.Forest.{Forest, nil, node, treeOf, preorder}
@@ -80,11 +81,11 @@ module _ (t : List ℕ) (D : ℕ) (s : Slices) (a : Answer) (u : Slices) (L : La
   accepted = taken t D s number-0 .table
 
   written : {A : Type 0} (new old now : List A) → now ≡ after (layoutNumber t D s) new old → now ≡ new ++ drop (length new) old
-  unfolding after overwrite
-  written {A} new old now e = e ∙ ap (λ (k : ℕ). after k new old) number-0
+  unfolding overwrite
+  written {A} new old now e = e ∙ after-accepted _ new old number-0
 
   field : {A : Type 0} (x y z : A) → z ≡ granted (layoutNumber t D s) x y → z ≡ x
-  field {A} x y z e = e ∙ ap (λ (k : ℕ). granted k x y) number-0
+  field {A} x y z e = e ∙ granted-accepted _ x y number-0
 
   -- the place and the level that stand in the slices, by node number
   abbrev pub placeOf : ℕ → ℤ

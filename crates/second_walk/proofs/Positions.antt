@@ -13,7 +13,7 @@ use Rattle.tree.specs.Table.{nodes}
 use Rattle.tree.specs.Forest.{treeOf}
 use Rattle.tree.specs.Levels.{level}
 use Rattle.tree.specs.WellFormed.{tableNumber}
-use Rattle.tree.proofs.Counting.{is-cases, below-or-not}
+use Rattle.tree.proofs.Counting.{is-cases}
 use Rattle.tree.proofs.Stands.{accepted-numbers}
 use Rattle.rule.specs.Result.{place}
 use Rattle.level_order.specs.LevelOrder.{nodeAt}

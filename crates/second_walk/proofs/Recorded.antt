@@ -1,14 +1,14 @@
 -- The record as it is written, position by position: each pair behind the pairs before it. Assumes nothing.
 use mathlib.Core.Path.{_≡_, refl, sym, ap, ap₂, _∙_}
 use mathlib.Core.Bool.{Bool, true, false, cond}
-use mathlib.Core.List.{List, [], _∷_, _++_, append-assoc, append-nil}
+use mathlib.Core.List.{List, [], _∷_, _++_, append-nil}
 use Prim.Native.Nat.{ℕ, suc, _+_, _-_, _*_, _≤_, _<_}
-use native.Mathlib.Numerals.{add-one}
 use native.Mathlib.Omega.{arith}
 use lib.Dec.{eqb}
 use lib.ListN.{length, getD, take, set, length-append}
-use lib.Seq.{drop-cons, set-append-seam, length-take-le, take-all}
+use lib.Seq.{length-take-le, take-all}
 use Rattle.refusal.specs.After.{overwrite}
+use Rattle.refusal.proofs.After.{store-two}
 use Rattle.tree.specs.Table.{nodes}
 use Rattle.tree.specs.Forest.{treeOf}
 use Rattle.tree.specs.Levels.{Pair, levels, together, level, neighbours}
@@ -27,20 +27,6 @@ length-flat (p ∷ ps) = omega (arith, length-flat ps)
 flat-append : (ps qs : List Pair) → flat (ps ++ qs) ≡ flat ps ++ flat qs
 flat-append [] qs = refl
 flat-append (p ∷ ps) qs = ap (λ (l : List ℕ). p .0 ∷ p .1 ∷ l) (flat-append ps qs)
-
--- an entry, and a pair, behind those that are overwritten
-entry-behind : (new old : List ℕ) (i a : ℕ) → length new ≡ i → i < length old → set (overwrite new old) i a ≡ overwrite (new ++ (a ∷ [])) old
-unfolding overwrite
-entry-behind new old i a e h =
-    let room : length new < length old = omega arith in
-    rw (← e, drop-cons old (length new) 0, set-append-seam, append-assoc, length-append, add-one)
-
-pair-behind : (new old : List ℕ) (k a b : ℕ) → length new ≡ 2 * k → 2 * k + 1 < length old
-    → set (set (overwrite new old) (2 * k) a) (2 * k + 1) b ≡ overwrite (new ++ (a ∷ b ∷ [])) old
-pair-behind new old k a b e h =
-    ap (λ (l : List ℕ). set l (2 * k + 1) b) (entry-behind new old (2 * k) a e (omega arith))
-    ∙ entry-behind (new ++ (a ∷ [])) old (2 * k + 1) b (omega (arith, length-append new (a ∷ []))) h
-    ∙ ap (λ (l : List ℕ). overwrite l old) (append-assoc new (a ∷ []) (b ∷ []))
 
 -- ---- the pairs among the first p positions
 
@@ -106,7 +92,7 @@ module _ {t before : List ℕ} {p pairs : ℕ} {now : List ℕ} (accepted : tabl
         omega (arith, R .count, ap length k, length-append {A = Pair} (pairsTo t p) ((a, b) ∷ [])),
         j
             ∙ ap (λ (l : List ℕ). set (set l (2 * pairs) a) (2 * pairs + 1) b) (R .written)
-            ∙ pair-behind (flat (pairsTo t p)) before pairs a b (omega (arith, length-flat (pairsTo t p), R .count)) (omega (arith, recorded-few (omega arith), R .room))
+            ∙ store-two (flat (pairsTo t p)) before (2 * pairs) a b (omega (arith, length-flat (pairsTo t p), R .count)) (omega (arith, recorded-few (omega arith), R .room))
             ∙ ap (λ (l : List ℕ). overwrite l before) (sym (ap flat k ∙ flat-append (pairsTo t p) ((a, b) ∷ []))),
       )
       go false a b i j k =

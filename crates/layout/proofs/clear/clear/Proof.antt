@@ -12,15 +12,13 @@ abbrev μ-loop : tie.MeasureT-loop
 μ-loop work₀ count i₀ work i = count - i
 
 loop-holds : tie.Need-loop-holds Inv-loop μ-loop
-loop-holds c = clear-start (c .args .work .now) (c .args .count) (c .pre)
+loop-holds c = clear-start (c .pre)
 
 mul-work : tie.Need-mul-work Inv-loop μ-loop
 mul-work c = omega arith
 
 slice-set-of-work : tie.Need-slice-set-of-work Inv-loop μ-loop
-slice-set-of-work c =
-    let p = c .before .loop in
-    omega (arith, clear-length (c .before .before .args .work .now) (p .work) (c .before .before .args .count) (p .i) (p .inv))
+slice-set-of-work c = omega (arith, clear-length (c .before .loop .inv))
 
 add-i : tie.Need-add-i Inv-loop μ-loop
 add-i c = omega arith
@@ -29,19 +27,13 @@ loop-less : tie.Need-loop-less Inv-loop μ-loop
 loop-less c = omega arith
 
 loop-again : tie.Need-loop-again Inv-loop μ-loop
-loop-again c =
-    let p = c .before .loop in
-    clear-next (c .before .before .args .work .now) (p .work) (c .before .before .args .count) (p .i) (p .inv) (c .loop-test .taken)
+loop-again c = clear-next (c .before .loop .inv) (c .loop-test .taken)
 
 same-length : tie.Need-same-length Inv-loop μ-loop
-same-length c =
-    let p = c .before .loop in
-    clear-length (c .before .before .args .work .now) (p .work) (c .before .before .args .count) (p .i) (p .inv)
+same-length c = clear-length (c .before .loop .inv)
 
 returns : tie.Need-returns Inv-loop μ-loop
-returns c =
-    let p = c .before .loop in
-    clear-end (c .before .before .args .work .now) (p .work) (c .before .before .args .count) (p .i) (p .inv) (c .loop-test .left)
+returns c = clear-end (c .before .loop .inv) (c .loop-test .left)
 
 pub clear-spec : {M : Type 1} → statement M
 clear-spec =
