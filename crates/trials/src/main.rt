@@ -75,6 +75,17 @@ fn try_renumber(what: &[u8], table: &[u16; 6]) {
     say(b"\n");
 }
 
+fn say_sheet(nodes: u16, separation: u16, table: &[u16; 6], tapes: &[u16; 6]) {
+    say(b", nodes");
+    say_number(nodes);
+    say(b", separation");
+    say_number(separation);
+    say(b", table");
+    say_entries(table);
+    say(b", tapes");
+    say_entries(tapes);
+}
+
 fn try_read(what: &[u8], file: &[u8]) {
     let mut table = [0u16; 6];
     let mut tapes = [0u16; 6];
@@ -83,14 +94,7 @@ fn try_read(what: &[u8], file: &[u8]) {
     let sheet = sheet::read_sheet(file, &mut table, &mut tapes);
     say_answer(sheet.number);
     if sheet.number == 0 {
-        say(b", nodes");
-        say_number(sheet.nodes);
-        say(b", separation");
-        say_number(sheet.separation);
-        say(b", table");
-        say_entries(&table);
-        say(b", tapes");
-        say_entries(&tapes);
+        say_sheet(sheet.nodes, sheet.separation, &table, &tapes);
     }
     say(b"\n");
 }
@@ -184,9 +188,8 @@ fn each_names_next(field: usize, from: usize) -> [u16; 2048]
     table
 }
 
-fn try_tables() {
-    let family = [1, NONE, NONE, 2, NONE, NONE];
-    try_check(b"P8, length 0", &family[..0]);
+fn try_refused_tables() {
+    try_check(b"P8, length 0", &[0u16; 0]);
     try_check(b"P9, the root has a sibling", &[NONE, 1, NONE, NONE]);
     try_check(b"P10, the root is its own child", &[0, NONE]);
     try_check(b"P11, two nodes with no links", &[NONE, NONE, NONE, NONE]);
@@ -194,22 +197,33 @@ fn try_tables() {
         b"1 and 2 name each other as first child",
         &[NONE, NONE, 2, NONE, 1, NONE],
     );
+}
+
+fn try_long_tables() {
     try_check(b"a chain of length 2,048", &each_names_next(0, 0));
     try_check(b"length 2,050", &[NONE; 2050]);
-    try_mirror(b"a root with two leaves", &family);
+}
+
+fn try_turned_tables() {
+    try_mirror(b"a root with two leaves", &[1, NONE, NONE, 2, NONE, NONE]);
     try_renumber(
         b"a root with leaves 2 and 1",
         &[2, NONE, NONE, NONE, NONE, 1],
     );
 }
 
-fn try_small_layouts() {
+fn try_separations() {
     let family = [1, NONE, NONE, 2, NONE, NONE];
     let mut work = [0i32; 48];
     try_layout(b"two leaves, D = 1", &family, 1, &mut work);
     try_layout(b"two leaves, D = 1,024", &family, 1024, &mut work);
     try_layout(b"two leaves, D = 1,025", &family, 1025, &mut work);
     try_layout(b"two leaves, D = 0", &family, 0, &mut work);
+}
+
+fn try_working_slices() {
+    let family = [1, NONE, NONE, 2, NONE, NONE];
+    let mut work = [0i32; 48];
     let mut short = [0i32; 47];
     try_layout(b"two leaves, work of 16n", &family, 3, &mut work);
     try_layout(b"two leaves, work of 16n - 1", &family, 3, &mut short);
@@ -221,31 +235,41 @@ fn try_small_layouts() {
     );
 }
 
-fn try_large_layouts() {
-    let chain = each_names_next(0, 0);
+fn try_star(work: &mut [i32]) {
     let mut star = each_names_next(1, 1);
     star[0] = 1;
+    try_layout(b"a star of length 2,048, D = 1", &star, 1, work);
+    try_layout(b"a star of length 2,048, D = 1,024", &star, 1024, work);
+}
+
+fn try_large_layouts() {
+    let chain = each_names_next(0, 0);
     let mut work = [0i32; 16384];
     try_layout(b"a chain of length 2,048", &chain, 1024, &mut work);
-    try_layout(b"a star of length 2,048, D = 1", &star, 1, &mut work);
-    try_layout(b"a star of length 2,048, D = 1,024", &star, 1024, &mut work);
+    try_star(&mut work);
     try_layout(b"length 2,050", &[NONE; 2050], 1, &mut work);
     let mut short = [0i32; 16383];
     try_layout(b"a chain, work of 16n - 1", &chain, 1024, &mut short);
 }
 
+fn try_file(what: &[u8], file: &[u8]) {
+    try_read(what, file);
+    try_list(what, file);
+}
+
 fn try_files() {
     let mut file = example::file();
-    try_read(b"the sheet file of a root with two leaves", &file);
-    try_list(b"the sheet file of a root with two leaves", &file);
+    try_file(b"the sheet file of a root with two leaves", &file);
     file[511] = 254;
-    try_read(b"the same with a wrong check word", &file);
-    try_list(b"the same with a wrong check word", &file);
+    try_file(b"the same with a wrong check word", &file);
 }
 
 fn main() {
-    try_tables();
-    try_small_layouts();
+    try_refused_tables();
+    try_long_tables();
+    try_turned_tables();
+    try_separations();
+    try_working_slices();
     try_large_layouts();
     try_files();
 }
