@@ -1,15 +1,17 @@
 -- The default ancestor: after a join every node of the row's right contour that is out of date belongs to the default. Assumes nothing.
-use mathlib.Core.Path.{_≡_, sym, ap, _∙_, subst, subst₂}
+use mathlib.Core.Path.{_≡_, ap, _∙_}
 use mathlib.Core.Logic.{_⊎_, inl, inr}
-use mathlib.Core.List.{List, [], _∷_, _++_, map}
-use Prim.Native.Nat.{ℕ, _+_, _-_}
+use mathlib.Core.List.{List, [], _∷_, map}
+use Prim.Native.Nat.{ℕ, _+_}
+use native.Mathlib.Omega.{arith}
 use lib.IntN.{ℤ, pos}
 use Rattle.tree.specs.Levels.{beside}
 use Rattle.tree.proofs.Counting.{All}
 use Rattle.rule.specs.Drawing.{Dot, lastOf}
-use Rattle.tree.proofs.Joined.{Some, some}
+use Rattle.tree.proofs.Joined.{Some}
 use Rattle.rule.proofs.LevelEnds.{last-in, last-map, last-append}
 use Rattle.contours.specs.Rows.{Outside, Owned}
+use Rattle.contours.proofs.Contour.{some-map}
 
 -- what the walk leaves of the new child's right contour: the nodes on the levels walked have the child, at position c, for their ancestor,
 -- and those below are out of date
@@ -24,12 +26,6 @@ pub data Default (c before : ℕ) : List (List Dot) → List (List Dot) → ℕ 
   moved : {y : List Dot} {ys : List (List Dot)} → Default c before [] (y ∷ ys) c
   lower : {x y : List Dot} {xs ys : List (List Dot)} {d : ℕ} → Default c before xs ys d → Default c before (x ∷ xs) (y ∷ ys) d
 
-last-both : (g h : Dot → Dot) (x y : List Dot) → Some y → lastOf (map g x ++ map h y) ≡ h (lastOf y)
-last-both g h x y s = last-append (map g x) (map h y) (more y s) ∙ last-map h y s
-  where
-    more : (y : List Dot) → Some y → Some (map h y)
-    more (d ∷ y) s = some
-
 module _ (ancestor : ℕ → ℤ) (f end c before j : ℕ) (at-c : c ≡ f + j) (g h : Dot → Dot)
     (gn : (e : Dot) → (g e) .node ≡ e .node) (gc : (e : Dot) → (g e) .child ≡ e .child)
     (hn : (e : Dot) → (h e) .node ≡ e .node) (hc : (e : Dot) → (h e) .child ≡ e .child) where
@@ -37,18 +33,16 @@ module _ (ancestor : ℕ → ℤ) (f end c before j : ℕ) (at-c : c ≡ f + j) 
   Owner d e = (ancestor (e .node) ≡ pos (f + e .child)) ⊎ (Outside f end (ancestor (e .node)) × (d ≡ f + e .child))
 
   owner-map : (k : Dot → Dot) → ((e : Dot) → (k e) .node ≡ e .node) → ((e : Dot) → (k e) .child ≡ e .child) → (d : ℕ) (e : Dot) → Owner d e → Owner d (k e)
-  owner-map k kn kc d e o =
-      subst₂ (λ (z i : ℕ). (ancestor z ≡ pos (f + i)) ⊎ (Outside f end (ancestor z) × (d ≡ f + i))) (sym (kn e)) (sym (kc e)) o
+  owner-map k kn kc d e o = rw (kn e, kc e) o
 
   rest-row : (d : ℕ) (xs : List (List Dot)) → All Some xs → Owned ancestor f end d xs → Owned ancestor f end d (map (map g) xs)
   rest-row d [] s o = tt
-  rest-row d (x ∷ xs) s o = (subst (Owner d) (sym (last-map g x (s .0))) (owner-map g gn gc d (lastOf x) (o .0)), rest-row d xs (s .1) (o .1))
+  rest-row d (x ∷ xs) s o = (rw (last-map g x (s .0)) (owner-map g gn gc d (lastOf x) (o .0)), rest-row d xs (s .1) (o .1))
 
   rest-child : (ys : List (List Dot)) → All Some ys → All (All (λ e. e .child ≡ j)) ys → Marked ancestor f end c [] ys → Owned ancestor f end c (map (map h) ys)
   rest-child [] s t m = tt
   rest-child (y ∷ ys) s t m = (
-    subst (Owner c) (sym (last-map h y (s .0)))
-        (owner-map h hn hc c (lastOf y) (inr (m .0, at-c ∙ ap (λ (k : ℕ). f + k) (sym (last-in (λ e. e .child ≡ j) y (s .0) (t .0)))))),
+    rw (last-map h y (s .0)) (owner-map h hn hc c (lastOf y) (inr (m .0, omega (arith, last-in (λ e. e .child ≡ j) y (s .0) (t .0))))),
     rest-child ys (s .1) (t .1) (m .1),
   )
 
@@ -59,8 +53,7 @@ module _ (ancestor : ℕ → ℤ) (f end c before j : ℕ) (at-c : c ≡ f + j) 
   owned-join d (x ∷ xs) [] p q t o m kept = rest-row before (x ∷ xs) p o
   owned-join d [] (y ∷ ys) p q t o m moved = rest-child (y ∷ ys) q t m
   owned-join d (x ∷ xs) (y ∷ ys) p q t o m (lower r) = (
-    subst (Owner d) (sym (last-both g h x y (q .0)))
-        (owner-map h hn hc d (lastOf y)
-        (inl (m .0 ∙ ap pos (at-c ∙ ap (λ (k : ℕ). f + k) (sym (last-in (λ e. e .child ≡ j) y (q .0) (t .0))))))),
+    rw (last-append (map g x) (map h y) (some-map h y (q .0)), last-map h y (q .0))
+        (owner-map h hn hc d (lastOf y) (inl (m .0 ∙ ap pos (omega (arith, last-in (λ e. e .child ≡ j) y (q .0) (t .0)))))),
     owned-join d xs ys (p .1) (q .1) (t .1) (o .1) (m .1) r,
   )

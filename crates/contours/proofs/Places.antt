@@ -1,10 +1,10 @@
 -- The places of the children in a row, before and after a join. Assumes nothing.
 use mathlib.Core.Path.{_≡_, refl, sym, ap, _∙_}
 use mathlib.Core.List.{List, [], _∷_}
-use Prim.Native.Nat.{ℕ, zero, suc, _+_, _-_, _≤_, _<_}
+use Prim.Native.Nat.{ℕ, zero, suc, _+_, _≤_, _<_}
 use native.Mathlib.Nat.{not-suc-le-zero, add-zero, zero-add}
 use native.Mathlib.Omega.{arith}
-use Rattle.tree.specs.Forest.{Forest, nil, node, join}
+use Rattle.tree.specs.Forest.{nil, node}
 use Rattle.rule.specs.Drawing.{Drawing, none, at, width, append, firstPlace, lastPlace}
 use Rattle.rule.specs.Join.{Meeting, shares, spread, start, alone, settled, meetings}
 use Rattle.rule.specs.Join as rule
@@ -26,10 +26,10 @@ append-right (at w y under after) v x below = append-right after v x below
 
 spread-place : (j : ℕ) (ms : List Meeting) (q : ℕ) (d : Drawing) (p : ℕ) → p < width d → placeAt (spread j ms q d) p ≡ placeAt d p + shares j ms (q + p)
 spread-place j ms q none p h = absurd (not-suc-le-zero h)
-spread-place j ms q (at v x below after) zero h = ap (λ (k : ℕ). x + shares j ms k) (sym (add-zero q))
+spread-place j ms q (at v x below after) zero h = rw add-zero
 spread-place j ms q (at v x below after) (suc p) h =
     let next : (q + 1) + p ≡ q + suc p = omega arith in
-    spread-place j ms (q + 1) after p (omega arith) ∙ ap (λ (k : ℕ). placeAt after p + shares j ms k) next
+    rw next at (spread-place j ms (q + 1) after p (omega arith))
 
 -- after a join a child of the row has moved by its shares, and the new child stands where it settled
 pub join-place : (D : ℕ) (row : Drawing) (v : ℕ) (below : Drawing) (p : ℕ) → p < width row
@@ -47,15 +47,13 @@ join-new D row v below =
 -- the next child starts at the separation after the last one
 pub start-place : (D : ℕ) (d : Drawing) (v w : ℕ) → width d ≡ suc w → start D d v ≡ placeAt d w + D
 start-place D none v w e = absurd (omega arith)
-start-place D (at u x below none) v zero e = refl
-start-place D (at u x below none) v (suc w) e = absurd (omega arith)
+start-place D (at u x below none) v w e = let last : w ≡ 0 = omega arith in rw last
 start-place D (at u x below (at z y under after)) v zero e = absurd (omega arith)
 start-place D (at u x below (at z y under after)) v (suc w) e = start-place D (at z y under after) v w (omega arith)
 
 pub last-place : (d : Drawing) (w : ℕ) → width d ≡ suc w → lastPlace d ≡ placeAt d w
 last-place none w e = absurd (omega arith)
-last-place (at u x below none) zero e = refl
-last-place (at u x below none) (suc w) e = absurd (omega arith)
+last-place (at u x below none) w e = let last : w ≡ 0 = omega arith in rw last
 last-place (at u x below (at z y under after)) zero e = absurd (omega arith)
 last-place (at u x below (at z y under after)) (suc w) e = last-place (at z y under after) w (omega arith)
 
@@ -71,24 +69,19 @@ module _ (first : ℕ → ℕ) (n : ℕ) (O : Ordered first n) (D : ℕ) where
   row-more f c h k = ap (draw D) (run-last first n O f c h k) ∙ drawOnto-join D none (run first n f c) (node c (family first n c) nil)
 
   pub row-width : (k f c : ℕ) → c ≡ f + k → c ≤ n → width (rowDrawn first n D f c) ≡ k
-  row-width zero f c e h = ap (λ (g : Forest). width (draw D g)) (run-nil first n O f c (omega arith))
+  row-width zero f c e h = rw (run-nil first n O f c (omega arith))
   row-width (suc k) f zero e h = absurd (omega arith)
-  row-width (suc k) f (suc c) e h =
-      ap width (row-more f c (omega arith) h) ∙ width-join D (rowDrawn first n D f c) c (childrenDrawn first n D c) ∙ ap suc (row-width k f c (omega arith) (omega arith))
+  row-width (suc k) f (suc c) e h = rw (row-more f c (omega arith) h, width-join, row-width k f c (omega arith) (omega arith))
 
   -- the first child stands at 0
   pub row-first : (k f c : ℕ) → c ≡ f + suc k → c ≤ n → placeAt (rowDrawn first n D f c) 0 ≡ 0
   row-first zero f zero e h = absurd (omega arith)
-  row-first zero f (suc c) e h =
-      let same : f ≡ c = omega arith in
-      let none-yet : rowDrawn first n D f c ≡ none = ap (draw D) (run-nil first n O f c (omega arith)) in
-      ap (λ (d : Drawing). placeAt d 0) (row-more f c (omega arith) h) ∙ ap (λ (d : Drawing). placeAt (rule.join D d c (childrenDrawn first n D c)) 0) none-yet
+  row-first zero f (suc c) e h = rw (row-more f c (omega arith) h, run-nil first n O f c (omega arith))
   row-first (suc k) f zero e h = absurd (omega arith)
   row-first (suc k) f (suc c) e h =
       let w = row-width (suc k) f c (omega arith) (omega arith) in
-      ap (λ (d : Drawing). placeAt d 0) (row-more f c (omega arith) h)
-      ∙ join-place D (rowDrawn first n D f c) c (childrenDrawn first n D c) 0 (omega (arith, w))
-      ∙ omega (arith, row-first k f c (omega arith) (omega arith), first-share (width (rowDrawn first n D f c)) (meetings D (rowDrawn first n D f c) c (childrenDrawn first n D c)))
+      rw (row-more f c (omega arith) h, join-place D (rowDrawn first n D f c) c (childrenDrawn first n D c) 0 (omega arith))
+      (omega (arith, row-first k f c (omega arith) (omega arith), first-share (width (rowDrawn first n D f c)) (meetings D (rowDrawn first n D f c) c (childrenDrawn first n D c))))
     where
       first-share : (j : ℕ) (ms : List Meeting) → shares j ms 0 ≡ 0
       first-share j [] = refl

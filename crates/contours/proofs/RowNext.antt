@@ -1,24 +1,24 @@
 -- One child more: a row of joined children, a drawn subtree and a finished walk give the row with the subtree's root joined. Assumes nothing.
-use mathlib.Core.Path.{_≡_, refl, sym, ap, ap₂, _∙_, subst}
-use mathlib.Core.Logic.{_⊎_, ⊎-elim}
+use mathlib.Core.Path.{_≡_, refl, sym, ap, _∙_, subst}
+use mathlib.Core.Logic.{⊎-elim}
 use mathlib.Core.List.{List, map}
 use Prim.Native.Nat.{ℕ, suc, _+_, _-_, _≤_, _<_}
 use native.Mathlib.Nat.{le-refl}
 use native.Mathlib.Omega.{arith}
-use lib.IntN.{ℤ, pos, _+ℤ_}
+use lib.IntN.{ℤ, pos, _+ℤ_, +ℤ-assoc}
 use Rattle.tree.specs.Levels.{beside}
 use Rattle.tree.proofs.Counting.{is-cases}
-use Rattle.rule.specs.Drawing.{Drawing, none, width, Dot, dots, rowDots, leftContour}
-use Rattle.rule.specs.Join.{Meeting, above0, shares, total, start, alone, meetings, settled}
+use Rattle.rule.specs.Drawing.{Drawing, none, width, Dot, dots, rowDots, leftContour, rightContour}
+use Rattle.rule.specs.Join.{Meeting, shares, total, start, alone, meetings}
 use Rattle.rule.specs.Join as rule
-use Rattle.rule.proofs.Signed.{below0, parts-add, parts-eq}
 use Rattle.rule.proofs.Moving.{shiftBy, moveBy, rowDots-join}
 use Rattle.rule.proofs.Spacing.{Row as RuleRow, Child, alone-child, row-drawOnto, row-none}
 use Rattle.contours.specs.Contours.{LeftSteps, RightSteps}
 use Rattle.contours.specs.Gather.{pending}
 use Rattle.contours.specs.Rows.{Columns, Owned, Row, rowDrawn, childrenDrawn, placeAt}
 use Rattle.level_order.proofs.Positions.{Ordered, run, family}
-use Rattle.contours.proofs.Threads.{LeftThread, RightThread, Rising, rising-drawOnto, firsts-stay, lasts-stay, left-join, right-join}
+use Rattle.contours.proofs.Contour.{left-steps, right-steps, steps-shift, steps-over}
+use Rattle.contours.proofs.Threads.{Rising, rising-drawOnto, left-join, right-join}
 use Rattle.contours.proofs.Owners.{owned-join}
 use Rattle.contours.proofs.Walk.{Join, Fields}
 use Rattle.contours.proofs.WalkEnds.{Ended}
@@ -51,7 +51,7 @@ module _ (first : ℕ → ℕ) (n : ℕ) (O : Ordered first n) (D f c end defaul
   pub rule-child : Child D (width theRow) childLevels
   rule-child = alone-child D (width theRow) (width theChild) c (start D theRow c) theChild (row-drawOnto D none (family first n c) (row-none D))
 
-  rising : Rising 0 rowLevels
+  rising : Rising 0 (leftContour rowLevels)
   rising = rising-drawOnto D none (run first n f c) (row-none D) tt
 
   -- the join that the walk belongs to
@@ -81,54 +81,41 @@ module _ (first : ℕ → ℕ) (n : ℕ) (O : Ordered first n) (D f c end defaul
     abbrev ms : List Meeting
     ms = meetings D theRow c theChild
 
-    m : ℕ → ℕ
-    m = shares (width theRow) ms
+    abbrev joined : Drawing
+    joined = rule.join D theRow c theChild
 
-    next-row : rowDrawn first n D f (suc c) ≡ rule.join D theRow c theChild
+    next-row : rowDrawn first n D f (suc c) ≡ joined
     next-row = row-more first n O D f c (omega arith) (omega arith)
 
     next-levels : rowDots 0 (rowDrawn first n D f (suc c)) ≡ beside (map (map (moveBy (shares (width theRow) ms))) rowLevels) (map (map (shiftBy (pos (total ms)))) childLevels)
     next-levels = ap (rowDots 0) next-row ∙ rowDots-join D theRow c theChild
 
     place-at-c : placeAt (rowDrawn first n D f (suc c)) (c - f) ≡ start D theRow c + moved
-    place-at-c =
-        ap (λ (r : Drawing). placeAt r (c - f)) next-row ∙ ap (placeAt (rule.join D theRow c theChild)) (sym the-width)
-        ∙ join-new D theRow c theChild ∙ ap (λ (k : ℕ). start D theRow c + k) (sym (E .total))
-
-    add-pos : (z y : ℤ) (u k v : ℕ) → z +ℤ y ≡ pos u → v ≡ u + k → z +ℤ (y +ℤ pos k) ≡ pos v
-    add-pos z y u k v e h =
-        parts-eq (z +ℤ (y +ℤ pos k)) (pos v) (omega (arith, h, ap above0 e, ap below0 e, parts-add z y, parts-add y (pos k), parts-add z (y +ℤ pos k)))
+    place-at-c = rw (next-row, ← the-width, join-new, E .total)
 
     places : (p : ℕ) → f ≤ p → p < suc c → w′ .place p +ℤ pending (w′ .shift) (w′ .change) end p ≡ pos (placeAt (rowDrawn first n D f (suc c)) (p - f))
     places p h k =
-        ⊎-elim (λ e.
-        ap₂ _+ℤ_ (ap (w′ .place) (e .0) ∙ new-place) (ap (pending (w′ .shift) (w′ .change) end) (e .0) ∙ E .beyond c (le-refl c) inside ∙ R .beyond c (le-refl c) inside)
-        ∙ ap pos (omega (arith, place-at-c, ap (λ (q : ℕ). placeAt (rowDrawn first n D f (suc c)) (q - f)) (e .0))))
+        ⊎-elim (λ e. rw (e .0, new-place, E .moves .beyond c (le-refl c) inside, R .beyond c (le-refl c) inside, place-at-c) (ap pos (omega arith)))
         (λ e.
-        let less : p < c = below (e .0) in
-        ap₂ _+ℤ_ (old-place p (e .0)) (E .gathered p h less)
-        ∙ add-pos (w .place p) (pending (w .shift) (w .change) end p) (placeAt theRow (p - f)) (shares (c - f) ms (p - f)) _ (R .places p h less)
-        (ap (λ (r : Drawing). placeAt r (p - f)) next-row ∙ join-place D theRow c theChild (p - f) (omega (arith, the-width))
-        ∙ ap (λ (j : ℕ). placeAt theRow (p - f) + shares j ms (p - f)) the-width))
+        let other = e .0 in
+        let less : p < c = omega arith in
+        rw (old-place p other, E .moves .row p h less, ← +ℤ-assoc, R .places p h less, next-row, join-place D theRow c theChild (p - f) (omega (arith, the-width)), the-width))
         (is-cases p c)
-      where
-        below : (p ≡ c → ⊥) → p < c
-        below d = omega arith
 
     pub row-next : Row first n D f (suc c) end d w′
     row-next =
         record {
           places = places;
-          settled = λ p e. let same : p ≡ c = omega arith in ap (w′ .place) same ∙ new-place ∙ ap pos (sym place-at-c ∙ ap (λ (q : ℕ). placeAt (rowDrawn first n D f (suc c)) (q - f)) (sym same));
-          beyond = λ p h k. E .beyond p (omega arith) k ∙ R .beyond p (omega arith) k;
-          left-steps = subst (LeftSteps (w′ .left)) (sym next-levels)
-              (left-join (w′ .left) (shares (width theRow) ms) (total ms) rowLevels childLevels (rule-row .some) (rule-child .some)
-              (firsts-stay D (width theRow) rowLevels (leftContour childLevels) rule-row rising) left-row left-child
-              (subst (λ (t : ℕ). LeftThread (w′ .left) t rowLevels childLevels) (E .total) (E .left-thread)));
-          right-steps = subst (RightSteps (w′ .right)) (sym next-levels)
-              (right-join (w′ .right) (shares (width theRow) ms) (total ms) rowLevels childLevels (rule-row .some) (rule-child .some)
-              (lasts-stay D (width theRow) (width theRow) 0 rowLevels childLevels (shares (width theRow) ms) (rule-row .falling) (λ p h. refl)) right-row right-child
-              (subst (λ (t : ℕ). RightThread (w′ .right) t rowLevels childLevels) (E .total) (E .right-thread)));
+          settled = λ p e. let same : p ≡ c = omega arith in rw (same, new-place, place-at-c);
+          beyond = λ p h k. E .moves .beyond p (omega arith) k ∙ R .beyond p (omega arith) k;
+          left-steps = rw (next-row, left-steps, left-join D theRow c theChild rule-row rule-child rising)
+              (steps-over (w′ .left) (rw left-steps at left-row)
+              (steps-shift (w′ .left) (λ e. e .child) (pos (total ms)) (leftContour childLevels) (rw left-steps at left-child))
+              (rw (E .total) at (E .left-thread)));
+          right-steps = rw (next-row, right-steps, right-join D theRow c theChild rule-row rule-child)
+              (steps-over (w′ .right) (steps-shift (w′ .right) (λ e. e .child) (pos (total ms)) (rightContour childLevels) (rw right-steps at right-child))
+              (rw right-steps at right-row)
+              (rw (E .total) at (E .right-thread)));
           owned = subst (Owned (w′ .ancestor) f end d) (sym next-levels)
               (owned-join (w′ .ancestor) f end c default (width theRow) (omega (arith, the-width)) (moveBy (shares (width theRow) ms)) (shiftBy (pos (total ms)))
               (λ e. refl) (λ e. refl) (λ e. refl) (λ e. refl) d rowLevels childLevels (rule-row .some) (rule-child .some) (rule-child .tags) owned-row (E .marked) (E .default));

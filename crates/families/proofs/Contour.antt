@@ -189,7 +189,7 @@ module _ (K : Joining) where
       let C = split-child (width (row K)) c (startAt K) (child K) in
       let R = K .joins .rowed .row in
       let e : c + 1 ≡ suc c = omega arith in
-      walk-start (J K) (fieldsOf (columnsOf before)) (standOf (topLevel before f c (pos D)) 0) (T .0) (dot (width (row K)) c (pos (0 + startAt K)) ∷ []) (T .1) (C .0) (T .2) (C .1)
+      walk-start (T .2) (C .1)
       (omega (arith, K .joins .inside, S K .one-level))
       (omega (arith, small-n K))
       (subst (Runs (first K) f c) (T .2) (row-runs K))

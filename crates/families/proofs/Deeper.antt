@@ -92,13 +92,13 @@ module _ {K : Joining} {now : List ℤ} {s : Stand} (C : Contour K now s) where
   pub next-row : (x : List Dot) (xs : List (List Dot)) → W .xs ≡ x ∷ xs → lower after s .right ≡ (lastOf x) .place
   next-row x xs e =
       let r : RightSteps (get (K .before) RIGHT) (W .x ∷ x ∷ xs) = subst (λ (l : List (List Dot)). RightSteps (get (K .before) RIGHT) (W .x ∷ l)) e (W .right-row) in
-      step-to ((lastOf (W .x)) .place) ((lastOf x) .place) (get after RIGHT (s .b - 1)) (s .right) (W .right-at)
+      step-to (W .right-at)
       (same-field RIGHT (s .b - 1) (omega arith) ∙ ap (get (K .before) RIGHT) (last-position C) ∙ r .0)
 
   pub next-child : (y : List Dot) (ys : List (List Dot)) → W .ys ≡ y ∷ ys → lower after s .left ≡ (firstOf y) .place
   next-child y ys e =
       let r : LeftSteps (get (K .before) LEFT) (W .y ∷ y ∷ ys) = subst (λ (l : List (List Dot)). LeftSteps (get (K .before) LEFT) (W .y ∷ l)) e (W .left-child) in
-      step-to ((firstOf (W .y)) .place) ((firstOf y) .place) (get after LEFT (s .b)) (s .left) (W .left-at)
+      step-to (W .left-at)
       (same-field LEFT (s .b) (omega arith) ∙ ap (get (K .before) LEFT) (sym (W .runs-child .1)) ∙ r .0)
 
   pub threads : (z : ℤ) → Threads after (pushed s z)
@@ -134,13 +134,13 @@ module _ {K : Joining} {now : List ℤ} {s : Stand} (C : Contour K now s) where
           walking = ⊎-elim (λ e. absurd (true≢false (sym (or-true (inl (eq-eqb (firstOfChildren after (s .a)) (firstOfChildren after (s .b)) (first-a ∙ e .1 ∙ sym first-b)))) ∙ go-on)))
               (λ X. ⊎-elim (λ e. absurd (true≢false (sym (or-true {a = eqb (firstOfChildren after (s .a)) (firstOfChildren after (s .b))} (inr (eq-eqb (firstOfChildren after (s .b)) (pastChildren after (s .e - 1)) (first-b ∙ e .1 ∙ sym past-e)))) ∙ go-on)))
               (λ Y. subst (Walking (J K) (F K) (new C)) same-stand
-              (walk-down (J K) (F K) (fieldsOf (columnsOf now)) (new C) (standOf s (C .k)) W (turned C) (met-before-c C) (X .0) (Y .0) (X .1) (Y .1) (X .2) (Y .2)))
+              (walk-down W (turned C) (met-before-c C) (X .2) (Y .2)))
               children-below)
               rows-below;
           kept = kept-next C;
         }
       where
-        same-stand : down (J K) (F K) (fieldsOf (columnsOf now)) (new C) (standOf s (C .k)) W (turned C) (met-before-c C) ≡ standOf (lower after (pushed s z)) (moved C)
+        same-stand : down W ≡ standOf (lower after (pushed s z)) (moved C)
         same-stand =
             stands (sym first-a) (sym first-b) (sym past-e)
             (side RIGHT (s .b - 1) ((lastOf (W .x)) .node) (omega arith) (last-position C) (s .right))

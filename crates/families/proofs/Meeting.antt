@@ -20,7 +20,7 @@ use Rattle.level_order.specs.Fields.{get, ANCESTOR, SHIFT, CHANGE}
 use Rattle.level_order.proofs.Cells.{put-length, put-same, put-field, put-position, put-rest}
 use Rattle.contours.specs.Rows.{Outside, Owned}
 use Rattle.contours.proofs.Gathered.{Met}
-use Rattle.contours.proofs.Walk.{Fields, Walking, Turned, amount, owner, whole-now, moved-now}
+use Rattle.contours.proofs.Walk.{Fields, Walking, Turned, amount, owner, metNow, whole-now, moved-now}
 use Rattle.contours.proofs.RowNext.{fieldsOf}
 use Rattle.families.specs.declared.join.Stand.{Stand}
 use Rattle.shifts.specs.Shifts.{shared}
@@ -141,7 +141,7 @@ module _ {K : Joining} {now : List ℤ} {s : Stand} (C : Contour K now s) where
       put-position mid ANCESTOR (s .e - 1) (pos c) (omega arith) ANCESTOR w (omega arith) (λ e. d (e ∙ last-child-position C))
       ∙ mid-field ANCESTOR w (omega arith)
 
-  same-close : close ≡ amount (J K) (F K) old new (standOf s (C .k)) W
+  same-close : close ≡ amount W
   same-close =
       ap (λ (z : ℤ). above0 ((s .right +ℤ pos D) -ℤ (s .left +ℤ z))) (C .moved)
       ∙ ap above0 (parts-eq ((s .right +ℤ pos D) -ℤ (s .left +ℤ pos (C .k))) (pos D -ℤ ((s .left +ℤ pos (C .k)) -ℤ s .right))
@@ -153,10 +153,10 @@ module _ {K : Joining} {now : List ℤ} {s : Stand} (C : Contour K now s) where
         parts-sub (pos D) ((s .left +ℤ pos (C .k)) -ℤ s .right),
       )))
 
-  pub moved-same : C .k + amount (J K) (F K) old new (standOf s (C .k)) W ≡ moved
+  pub moved-same : C .k + amount W ≡ moved
   moved-same = ap (λ (m : ℕ). C .k + m) (sym same-close)
 
-  pub turned : Turned (J K) old new (owner (J K) (F K) old new (standOf s (C .k)) W) (amount (J K) (F K) old new (standOf s (C .k)) W) ((lastOf (W .y)) .node)
+  pub turned : Turned (J K) old new (owner W) (amount W) ((lastOf (W .y)) .node)
   turned =
       subst (λ (m : ℕ). Turned (J K) old new ((lastOf (W .x)) .child) m ((lastOf (W .y)) .node)) same-close
       (record {
@@ -178,16 +178,13 @@ module _ {K : Joining} {now : List ℤ} {s : Stand} (C : Contour K now s) where
   -- the child ends before the widest row does
   pub moved-bound : startAt K + moved ≤ 1047552
   moved-bound =
-      let st = standOf s (C .k) in
-      let m = amount (J K) (F K) old new st W in
       omega (
         arith,
         next-bound K,
         next-last K,
-        ap total (whole-now (J K) (F K) old new st W turned met-before-c),
-        total-append (W .met ++ (record { child = owner (J K) (F K) old new st W; amount = m } ∷ []))
-            (rule.meet D (C .k + m) (rightContour (W .xs)) (leftContour (W .ys))),
-        moved-now (J K) (F K) old new st W turned met-before-c,
+        ap total (whole-now W),
+        total-append (metNow W) (rule.meet D (C .k + amount W) (rightContour (W .xs)) (leftContour (W .ys))),
+        moved-now W,
         moved-same,
       )
 

@@ -4,7 +4,6 @@ use mathlib.Core.Path.{_≡_, sym, ap, _∙_, subst}
 use mathlib.Core.Logic.{⊎-elim}
 use mathlib.Core.List.{List, [], _∷_, _++_}
 use Prim.Native.Nat.{ℕ, suc, _≤_, _<_}
-use native.Mathlib.Nat.{le-trans}
 use native.Mathlib.Omega.{arith}
 use lib.IntN.{ℤ}
 use Rattle.tree.specs.Table.{nodes}
@@ -14,17 +13,17 @@ use Rattle.rule.specs.Drawing.{Dot, width, firstOf, lastOf}
 use Rattle.rule.proofs.OnLevel.{OnLevel, top, down}
 use Rattle.rule.proofs.LevelEnds.{last-mem, first-mem}
 use Rattle.level_order.specs.Fields.{get, ANCESTOR}
-use Rattle.level_order.proofs.Positions.{Ordered, mono-le, within}
+use Rattle.level_order.proofs.Positions.{Ordered, within}
 use Rattle.level_order.proofs.Occurs.{times-root}
 use Rattle.contours.specs.Rows.{Outside}
 use Rattle.contours.proofs.Runs.{Runs}
-use Rattle.contours.proofs.Walk.{Walking, unmarked-now}
+use Rattle.contours.proofs.Walk.{Walking, reach, unmarked-now}
 use Rattle.contours.proofs.RowNext.{fieldsOf}
 use Rattle.families.specs.declared.join.Stand.{Stand}
 use Rattle.families.specs.Joining.{columnsOf, occurs}
 use Rattle.families.proofs.Joining.{Joining, first, O, row, child, startAt, J, F, spaced-child, small-n, child-on}
 use Rattle.families.proofs.Contour.{Contour, standOf, split-child}
-use Rattle.families.proofs.Meeting.{next, new, turned, met-before-c}
+use Rattle.families.proofs.Meeting.{next, turned, met-before-c}
 
 -- ---- the levels of a run
 
@@ -59,9 +58,6 @@ module _ {K : Joining} {now : List ℤ} {s : Stand} (C : Contour K now s) where
   abbrev W : Walking (J K) (F K) (fieldsOf (columnsOf now)) (standOf s (C .k))
   W = C .walking
 
-  reach : s .e ≤ first K (s .b)
-  reach = le-trans (W .one-level) (mono-le (first K) (nodes t) (O K) (s .a) (s .b) (omega (arith, W .runs-row .0)) (omega (arith, W .runs-child .0, W .fits)))
-
   child-before : c < s .e
   child-before =
       let T = split-child (width (row K)) c (startAt K) (child K) in
@@ -75,7 +71,7 @@ module _ {K : Joining} {now : List ℤ} {s : Stand} (C : Contour K now s) where
   in-family : (k : ℕ) → first K (s .b) ≤ k → 1 ≤ occurs t c (suc c) k → 1 ≤ occurs t (first K c) (first K (suc c)) k
   in-family k h o =
       let same = times-root (first K) (nodes t) (O K) c k (small-n K) in
-      ⊎-elim (λ q. absurd (omega (arith, q .0, h, reach, child-before))) (λ q. omega (arith, o, same, q .1)) (is-cases k c)
+      ⊎-elim (λ q. absurd (omega (arith, q .0, h, reach W, child-before))) (λ q. omega (arith, o, same, q .1)) (is-cases k c)
 
   below-there : All (λ l. 1 ≤ occurs t c (suc c) ((lastOf l) .node)) (W .y ∷ W .ys)
   below-there =
@@ -85,11 +81,11 @@ module _ {K : Joining} {now : List ℤ} {s : Stand} (C : Contour K now s) where
 
   not-passed : (k : ℕ) → first K (s .b) ≤ k → All (λ l. (lastOf l) .node ≡ k → ⊥) (W .above-child ++ (W .y ∷ []))
   not-passed k h =
-      all-append _ (W .above-child) (W .y ∷ []) (each (W .above-child) (W .passed)) ((λ q. omega (arith, q, h, reach, W .runs-child .2)), tt)
+      all-append _ (W .above-child) (W .y ∷ []) (each (W .above-child) (W .passed)) ((λ q. omega (arith, q, h, reach W, W .runs-child .2)), tt)
     where
       each : (us : List (List Dot)) → All (λ l. (lastOf l) .node < s .b) us → All (λ l. (lastOf l) .node ≡ k → ⊥) us
       each [] a = tt
-      each (u ∷ us) a = ((λ q. omega (arith, q, a .0, h, reach, W .runs-child .0)), each us (a .1))
+      each (u ∷ us) a = ((λ q. omega (arith, q, a .0, h, reach W, W .runs-child .0)), each us (a .1))
 
   pub stale-below : All (λ l. Outside f end (get (next C) ANCESTOR ((lastOf l) .node))) (W .ys)
   stale-below =
@@ -102,7 +98,7 @@ module _ {K : Joining} {now : List ℤ} {s : Stand} (C : Contour K now s) where
       go (y ∷ ys) a b =
           let k = (lastOf y) .node in (
             subst (Outside f end)
-                (sym (unmarked-now (J K) (F K) (fieldsOf (columnsOf now)) (new C) (standOf s (C .k)) W (turned C) (met-before-c C) k (not-passed k (a .0))))
+                (sym (unmarked-now W (turned C) (met-before-c C) k (not-passed k (a .0))))
                 (K .joins .waiting .stale k (in-family k (a .0) (b .0))),
             go ys (a .1) (b .1),
           )

@@ -72,7 +72,7 @@ module _ {K : Joining} {now : List ℤ} {s : Stand} (C : Contour K now s) where
       → Ended (J K) (F K) (new C) (get u LEFT) (get u RIGHT) (moved C) default
   ended-by-child u ey h =
       subst (λ (m : ℕ). Ended (J K) (F K) (new C) (get u LEFT) (get u RIGHT) m default) (moved-same C)
-      (child-ends (J K) (F K) (fieldsOf (columnsOf now)) (new C) (standOf s (C .k)) W (turned C) (met-before-c C) (get u LEFT) (get u RIGHT) ey
+      (child-ends W (turned C) (met-before-c C) (get u LEFT) (get u RIGHT) ey
       (λ x xs e. h x xs e ∙ ap (λ (m : ℕ). (lastOf x) .place -ℤ ((lastOf (W .y)) .place +ℤ pos m)) (sym (moved-same C))))
 
   -- ---- neither goes deeper
@@ -173,7 +173,7 @@ module _ {K : Joining} {now : List ℤ} {s : Stand} (C : Contour K now s) where
     ends-row ex y ys ey =
         ends-put LEFT (s .a) left-step (omega arith) (omega arith) (a-few C) (omega (arith, occurs-next K (s .a), row-there)) c (omega (arith, S K .some)) (omega arith)
         (subst (λ (m : ℕ). Ended (J K) (F K) (new C) (get left-put LEFT) (get left-put RIGHT) m c) (moved-same C)
-        (row-ends (J K) (F K) (fieldsOf (columnsOf now)) (new C) (standOf s (C .k)) W (turned C) (met-before-c C) (get left-put LEFT) (get left-put RIGHT) ex y ys ey
+        (row-ends W (turned C) (met-before-c C) (get left-put LEFT) (get left-put RIGHT) ex ey
         (ap (get left-put LEFT) (W .runs-row .1) ∙ put-same after LEFT (s .a) left-step (omega (arith, inside, a-few C))
         ∙ ap₂ (λ (u v : ℤ). u -ℤ v) (ap₂ _+ℤ_ (next-child C y ys ey) (ez ∙ ap pos (sym (moved-same C)))) (W .outer-left))
         (stale-below C)))
