@@ -5,7 +5,7 @@ use mathlib.Core.List.{List, map}
 use Prim.Native.Nat.{ℕ, suc, _+_, _-_, _≤_, _<_}
 use native.Mathlib.Nat.{le-refl}
 use native.Mathlib.Omega.{arith}
-use lib.IntN.{ℤ, pos, _+ℤ_, +ℤ-assoc}
+use lib.IntN.{pos, _+ℤ_, +ℤ-assoc}
 use Rattle.tree.specs.Levels.{beside}
 use Rattle.tree.proofs.Counting.{is-cases}
 use Rattle.rule.specs.Drawing.{Drawing, none, width, Dot, dots, rowDots, leftContour, rightContour}

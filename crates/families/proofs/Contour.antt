@@ -8,14 +8,15 @@ use native.Mathlib.Omega.{arith}
 use lib.IntN.{ℤ, pos, natAbs}
 use lib.ListN.{length, drop}
 use Rattle.tree.specs.Table.{nodes}
+use Rattle.tree.specs.Forest.{treeOf}
 use Rattle.rule.specs.Drawing.{Drawing, none, at, width, lastPlace, Dot, dot, dots, rowDots, firstOf, lastOf, leftContour, rightContour}
 use Rattle.rule.specs.Join.{alone, total}
 use Rattle.rule.specs.Join as rule
 use Rattle.rule.proofs.AtOnce.{total-append}
 use Rattle.rule.proofs.OnLevel.{OnLevel}
 use Rattle.rule.proofs.LevelEnds.{last-mem, first-mem}
-use Rattle.level_order.specs.Fields.{get, FIRST, COUNT, LEFT, RIGHT, ANCESTOR, SHIFT, CHANGE}
-use Rattle.level_order.proofs.Positions.{within}
+use Rattle.level_order.specs.Numbered.{Numbered}
+use Rattle.level_order.specs.Fields.{get, NODE, FIRST, COUNT, LEFT, RIGHT, ANCESTOR, SHIFT, CHANGE}
 use Rattle.contours.specs.Contours.{LeftSteps, RightSteps}
 use Rattle.contours.specs.Rows.{placeAt}
 use Rattle.contours.proofs.Runs.{Runs}
@@ -27,9 +28,10 @@ use Rattle.contours.proofs.Steps.{row-top}
 use Rattle.contours.proofs.RowNext.{fieldsOf}
 use Rattle.contours.proofs.Bounds.{on-here, row-near, alone-near}
 use Rattle.families.specs.declared.join.Stand.{Stand}
-use Rattle.families.specs.Descent.{Reads, Modest, Level, topLevel}
+use Rattle.families.specs.Descent.{Modest, Level, topLevel}
 use Rattle.families.specs.Joining.{columnsOf, occurs}
-use Rattle.families.proofs.Joining.{Joining, first, O, S, row, child, startAt, J, F, row-wide, small-n, row-runs, child-runs, child-left, child-right, last-at, start-at, start-here, next-last, next-bound, row-last-bound}
+use Rattle.families.proofs.Children.{first-reads, count-reads}
+use Rattle.families.proofs.Joining.{Joining, first, O, few, S, row, child, startAt, J, F, row-wide, small-n, row-runs, child-runs, child-left, child-right, last-at, start-at, start-here, next-last, next-bound, row-last-bound}
 
 -- what the walk leaves as it was, when the child has been moved by k
 pub record Kept (K : Joining) (now : List ℤ) (k : ℕ) : Type 0 where
@@ -63,26 +65,14 @@ module _ {K : Joining} {now : List ℤ} {k : ℕ} (kept : Kept K now k) where
   pub room : 16 * nodes (K .t) ≤ length now
   room = omega (arith, K .joins .rowed .numbered .size, kept .size)
 
-  pub reads-first : (p : ℕ) → p < nodes (K .t) → Reads now FIRST p
-  reads-first p h =
+  pub numbered : Numbered (treeOf (K .t)) (nodes (K .t)) now
+  numbered =
+      let N = K .joins .rowed .numbered in
       record {
-        inside = omega (arith, room, h);
-        small = (
-          first K p,
-          omega (arith, within (first K) (nodes (K .t)) (O K) p (omega (arith, h)), K .joins .few),
-          kept .field FIRST p (omega arith) ∙ K .joins .rowed .numbered .first p h,
-        );
-      }
-
-  pub reads-count : (p : ℕ) → p < nodes (K .t) → Reads now COUNT p
-  reads-count p h =
-      record {
-        inside = omega (arith, room, h);
-        small = (
-          first K (suc p) - first K p,
-          omega (arith, within (first K) (nodes (K .t)) (O K) (suc p) h, K .joins .few),
-          kept .field COUNT p (omega arith) ∙ K .joins .rowed .numbered .count p h,
-        );
+        size = room;
+        node = λ p h. kept .field NODE p (omega arith) ∙ N .node p h;
+        first = λ p h. kept .field FIRST p (omega arith) ∙ N .first p h;
+        count = λ p h. kept .field COUNT p (omega arith) ∙ N .count p h;
       }
 
 -- ---- places are modest
@@ -90,11 +80,11 @@ module _ {K : Joining} {now : List ℤ} {k : ℕ} (kept : Kept K now k) where
 module _ (K : Joining) where
   pub row-modest : (z : ℤ) (e : Dot) (l : ℕ) → z ≡ e .place → OnLevel e l (J K .row) → Modest z
   row-modest z e l q o =
-      omega (arith, ap natAbs q, row-near (first K) (nodes (K .t)) (O K) (K .D) (K .joins .few) (K .joins .given .high) (K .f) (K .c) (S K .some) (omega (arith, small-n K)) (omega (arith, S K .one-level, K .joins .inside)) e l o)
+      omega (arith, ap natAbs q, row-near (first K) (nodes (K .t)) (O K) (K .D) (few K) (K .joins .given .high) (K .f) (K .c) (S K .some) (omega (arith, small-n K)) (omega (arith, S K .one-level, K .joins .inside)) e l o)
 
   pub child-modest : (z : ℤ) (e : Dot) (l : ℕ) → z ≡ e .place → OnLevel e l (J K .child) → Modest z
   child-modest z e l q o =
-      omega (arith, ap natAbs q, start-at K, row-last-bound K, K .joins .given .high, alone-near (first K) (nodes (K .t)) (O K) (K .D) (K .joins .few) (K .joins .given .high) (width (row K)) (K .c) (startAt K) (small-n K) e l o)
+      omega (arith, ap natAbs q, start-at K, row-last-bound K, K .joins .given .high, alone-near (first K) (nodes (K .t)) (O K) (K .D) (few K) (K .joins .given .high) (width (row K)) (K .c) (startAt K) (small-n K) e l o)
 
 -- ---- a level
 
@@ -149,7 +139,7 @@ module _ {K : Joining} {now : List ℤ} {s : Stand} (C : Contour K now s) where
         child = W .runs-child .0;
         low = K .joins .rowed .default-low;
         high = K .joins .rowed .default-high;
-        few = (omega (arith, W .fits, K .joins .few), omega (arith, small-n K, K .joins .few));
+        few = (omega (arith, W .fits, few K), omega (arith, small-n K, few K));
         inside = (omega (arith, room kept, W .fits), omega (arith, room kept, small-n K));
         right-modest = row-modest K (s .right) (lastOf (W .x)) _ (W .right-at) last-row-on;
         left-modest = child-modest K (s .left) (firstOf (W .y)) _ (W .left-at) first-child-on;
@@ -161,10 +151,10 @@ module _ {K : Joining} {now : List ℤ} {s : Stand} (C : Contour K now s) where
           omega (arith, kept .small CHANGE p (omega arith) (omega arith) h (omega (arith, g, K .joins .inside)), most, start-at K),
         );
         looked = record {
-          first-a = reads-first kept (s .a) a-few;
-          first-b = reads-first kept (s .b) b-few;
-          first-e = reads-first kept (s .e - 1) e-few;
-          count-e = reads-count kept (s .e - 1) e-few;
+          first-a = first-reads (K .t) (K .joins .given .accepted) (numbered kept) (s .a) a-few;
+          first-b = first-reads (K .t) (K .joins .given .accepted) (numbered kept) (s .b) b-few;
+          first-e = first-reads (K .t) (K .joins .given .accepted) (numbered kept) (s .e - 1) e-few;
+          count-e = count-reads (K .t) (K .joins .given .accepted) (numbered kept) (s .e - 1) e-few;
           some = omega (arith, W .runs-child .0);
         };
       }

@@ -11,11 +11,12 @@ use lib.IntN.{ℤ, pos, _+ℤ_}
 use lib.ListN.{length}
 use Rattle.refusal.proofs.Truth.{or-true}
 use Rattle.tree.specs.Table.{nodes}
+use Rattle.tree.specs.Forest.{treeOf}
 use Rattle.rule.specs.Drawing.{Dot, firstOf, lastOf}
-use Rattle.rule.specs.Join.{above0}
 use Rattle.rule.proofs.OnLevel.{OnLevel}
 use Rattle.rule.proofs.LevelEnds.{last-mem, first-mem}
-use Rattle.level_order.specs.Fields.{get, FIRST, COUNT, LEFT, RIGHT, ANCESTOR}
+use Rattle.level_order.specs.Numbered.{Numbered}
+use Rattle.level_order.specs.Fields.{get, LEFT, RIGHT, ANCESTOR}
 use Rattle.contours.specs.Contours.{LeftSteps, RightSteps}
 use Rattle.contours.proofs.Runs.{Runs}
 use Rattle.contours.proofs.Walk.{Walking, step-to, down, walk-down}
@@ -25,8 +26,9 @@ use Rattle.contours.proofs.Bounds.{on-here}
 use Rattle.families.specs.declared.join.Stand.{Stand}
 use Rattle.families.specs.Descent.{Threads, Steps, lower, isEnd, firstOfChildren, pastChildren}
 use Rattle.families.specs.Joining.{columnsOf}
+use Rattle.families.proofs.Children.{first-value, past-value}
 use Rattle.families.proofs.Joining.{Joining, first, O, J, F}
-use Rattle.families.proofs.Contour.{Contour, standOf, pushed, row-modest, child-modest, level, a-few, b-few, e-few, last-position, last-child-position}
+use Rattle.families.proofs.Contour.{Contour, standOf, pushed, numbered, row-modest, child-modest, level, a-few, b-few, e-few, last-position, last-child-position}
 use Rattle.families.proofs.Meeting.{moved, next, new, turned, met-before-c, moved-same, moved-bound, kept-next}
 
 -- a run of levels: none, or its first level has nodes
@@ -60,26 +62,19 @@ module _ {K : Joining} {now : List ℤ} {s : Stand} (C : Contour K now s) where
   pub same-field : (g p : ℕ) → g < ANCESTOR → get after g p ≡ get (K .before) g p
   same-field = kept-next C .field
 
-  first-of : (p : ℕ) → p < nodes (K .t) → firstOfChildren after p ≡ first K p
-  first-of p h = ap above0 (same-field FIRST p (omega arith) ∙ K .joins .rowed .numbered .first p h)
+  abbrev numbered-after : Numbered (treeOf (K .t)) (nodes (K .t)) after
+  numbered-after = numbered (kept-next C)
 
   pub first-a : firstOfChildren after (s .a) ≡ first K (s .a)
-  first-a = first-of (s .a) (a-few C)
+  first-a = first-value (K .t) (K .joins .given .accepted) numbered-after (s .a) (a-few C)
 
   pub first-b : firstOfChildren after (s .b) ≡ first K (s .b)
-  first-b = first-of (s .b) (b-few C)
+  first-b = first-value (K .t) (K .joins .given .accepted) numbered-after (s .b) (b-few C)
 
   pub past-e : pastChildren after (s .e - 1) ≡ first K (s .e)
   past-e =
-      let h : s .e - 1 < nodes (K .t) = e-few C in
       let e : suc (s .e - 1) ≡ s .e = omega (arith, W .runs-child .0) in
-      omega (
-        arith,
-        first-of (s .e - 1) h,
-        ap above0 (same-field COUNT (s .e - 1) (omega arith) ∙ K .joins .rowed .numbered .count (s .e - 1) h),
-        ap (first K) e,
-        O K .mono (s .e - 1) h,
-      )
+      past-value (K .t) (K .joins .given .accepted) numbered-after (s .e - 1) (e-few C) ∙ ap (first K) e
 
   pub rows-below : ((W .xs ≡ []) × (first K (s .a) ≡ first K (s .b))) ⊎ ((x : List Dot) × (xs : List (List Dot)) × (W .xs ≡ x ∷ xs) × (first K (s .a) < first K (s .b)))
   rows-below = runs-cases (first K) (first K (s .a)) (first K (s .b)) (W .xs) (W .runs-row .4)

@@ -1,8 +1,8 @@
 -- The families from position p on are drawn: at the start, from one family to the one before it, and at the end. Assumes nothing.
-use mathlib.Core.Path.{_≡_, refl, sym, ap, _∙_, subst}
+use mathlib.Core.Path.{_≡_, refl, sym, _∙_, subst}
 use mathlib.Core.Logic.{inl, inr, ⊎-elim}
 use mathlib.Core.List.{List}
-use Prim.Native.Nat.{ℕ, suc, _+_, _-_, _*_, _≤_, _<_}
+use Prim.Native.Nat.{ℕ, suc, _-_, _*_, _≤_, _<_}
 use native.Mathlib.Nat.{le-refl, le-trans}
 use native.Mathlib.Omega.{arith}
 use lib.IntN.{ℤ, pos}
@@ -10,12 +10,10 @@ use lib.ListN.{length, drop}
 use Rattle.tree.specs.Table.{nodes}
 use Rattle.tree.specs.Forest.{treeOf}
 use Rattle.tree.proofs.Counting.{is-cases, below-or-not}
-use Rattle.rule.specs.Join.{above0}
 use Rattle.level_order.specs.LevelOrder.{firstAt}
 use Rattle.level_order.specs.Fields.{get, put, NODE, FIRST, COUNT, PLACE, LEFT, RIGHT, ANCESTOR, SHIFT, CHANGE}
 use Rattle.level_order.specs.Numbered.{Numbered, Fresh}
 use Rattle.contours.specs.Rows.{Subtree}
-use Rattle.families.specs.Descent.{Reads}
 use Rattle.families.specs.Families.{Ready, FamilyPlaced, FamilyDrawn, FamiliesFrom}
 use Rattle.level_order.proofs.Positions.{Ordered, mono-le, within}
 use Rattle.level_order.proofs.Occurs.{times-apart}
@@ -48,8 +46,8 @@ module _ (t : List ℕ) (D : ℕ) (O : Ordered (firstAt (treeOf t)) (nodes t)) w
 
   -- ---- at the start
 
-  pub families-start : (before : List ℤ) → Numbered (treeOf t) (nodes t) before → Fresh (nodes t) before → DrawnFrom t D (nodes t) before before
-  families-start before N F =
+  pub families-start : {before : List ℤ} → Numbered (treeOf t) (nodes t) before → Fresh (nodes t) before → DrawnFrom t D (nodes t) before before
+  families-start N F =
       record {
         inside = le-refl n;
         numbered = N;
@@ -65,7 +63,7 @@ module _ (t : List ℕ) (D : ℕ) (O : Ordered (firstAt (treeOf t)) (nodes t)) w
 
   -- ---- one family more
 
-  module _ (r : ℕ) (before work : List ℤ) (S : DrawnFrom t D (suc r) before work) where
+  module _ {r : ℕ} {before work : List ℤ} (S : DrawnFrom t D (suc r) before work) where
     abbrev known : r < n
     known = S .inside
 
@@ -74,27 +72,6 @@ module _ (t : List ℕ) (D : ℕ) (O : Ordered (firstAt (treeOf t)) (nodes t)) w
 
     abbrev after-self : r < first r
     after-self = O .later r known
-
-    -- what is read of the position
-    first-within : first (suc r) ≤ n
-    first-within = within first n O (suc r) known
-
-    inside-work : 16 * suc r ≤ length work
-    inside-work = omega (arith, known, S .numbered .size)
-
-    pub first-reads : n ≤ 1024 → Reads work FIRST r
-    first-reads few =
-        record { inside = omega (arith, inside-work); small = (first r, omega (arith, few, up, first-within), S .numbered .first r known) }
-
-    pub count-reads : n ≤ 1024 → Reads work COUNT r
-    count-reads few =
-        record { inside = omega (arith, inside-work); small = (first (suc r) - first r, omega (arith, few, first-within), S .numbered .count r known) }
-
-    pub first-value : above0 (get work FIRST r) ≡ first r
-    first-value = ap above0 (S .numbered .first r known)
-
-    pub past-value : above0 (get work FIRST r) + above0 (get work COUNT r) ≡ first (suc r)
-    past-value = omega (arith, first-value, ap above0 (S .numbered .count r known), up)
 
     -- what the drawing of a family asks
     pub families-ready : first r < first (suc r) → Ready t D r work
@@ -135,7 +112,7 @@ module _ (t : List ℕ) (D : ℕ) (O : Ordered (firstAt (treeOf t)) (nodes t)) w
         }
 
     -- a position whose family has been drawn
-    module _ (after : List ℤ) (F : FamilyDrawn t D r work after) where
+    module _ {after : List ℤ} (F : FamilyDrawn t D r work after) where
       old-subtree : (q : ℕ) → suc r ≤ q → q < first r → Subtree first n D q (get after LEFT) (get after RIGHT)
       old-subtree q l k =
           subtree-kept first n O D q (omega (arith, k, within first n O r (omega (arith, known)))) (get work LEFT) (get work RIGHT) (get after LEFT) (get after RIGHT)
@@ -193,7 +170,7 @@ module _ (t : List ℕ) (D : ℕ) (O : Ordered (firstAt (treeOf t)) (nodes t)) w
   -- ---- at the end
 
   -- the root's place is written when every family is drawn
-  module _ (some : 0 < nodes t) (before work : List ℤ) (S : DrawnFrom t D 0 before work) where
+  module _ (some : 0 < nodes t) {before work : List ℤ} (S : DrawnFrom t D 0 before work) where
     abbrev ended : List ℤ
     ended = put work PLACE 0 (pos 0)
 

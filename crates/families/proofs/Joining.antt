@@ -9,6 +9,7 @@ use Rattle.tree.specs.Table.{nodes}
 use Rattle.tree.specs.Forest.{Forest, nil, node, treeOf, preorder}
 use Rattle.tree.specs.Numbers.{count}
 use Rattle.tree.proofs.Counting.{All}
+use Rattle.tree.proofs.Stands.{accepted-numbers}
 use Rattle.tree.proofs.Joined.{Some}
 use Rattle.rule.specs.Drawing.{Drawing, none, width, lastPlace, Dot, rowDots}
 use Rattle.rule.specs.Join.{start, alone, total, meetings}
@@ -20,6 +21,7 @@ use Rattle.rule.proofs.Tight.{on-names}
 use Rattle.level_order.specs.LevelOrder.{firstAt}
 use Rattle.level_order.specs.Fields.{get, PLACE, LEFT, RIGHT}
 use Rattle.level_order.proofs.Positions.{Ordered, run, family, run-node, run-nil}
+use Rattle.level_order.proofs.InOrder.{ordered}
 use Rattle.level_order.proofs.Occurs.{times-cut}
 use Rattle.contours.specs.Contours.{LeftSteps, RightSteps}
 use Rattle.contours.specs.Rows.{placeAt, rowDrawn, childrenDrawn}
@@ -33,8 +35,6 @@ use Rattle.families.specs.Joining.{columnsOf, occurs, Given, Siblings, R
 
 pub record Joins (t : List ℕ) (D f c end default : ℕ) (before : List ℤ) : Type 0 where
   pub given : Given t D
-  pub ordered : Ordered (firstAt (treeOf t)) (nodes t)
-  pub few : nodes t ≤ 1024
   pub rowed : Rowed t D f c end default before
   pub waiting : Waiting t D f end c before
   pub inside : c < end
@@ -50,6 +50,10 @@ pub record Joining : Type 0 where
   pub before : List ℤ
   pub joins : Joins t D f c end default before
 
+abbrev pub joining : {t : List ℕ} {D f c end default : ℕ} {before : List ℤ} → Joins t D f c end default before → Joining
+joining {t} {D} {f} {c} {end} {default} {before} H =
+    record { t = t; D = D; f = f; c = c; end = end; default = default; before = before; joins = H }
+
 module _ (K : Joining) where
   open Joining K using (t, D, f, c, end, default, before)
 
@@ -60,7 +64,10 @@ module _ (K : Joining) where
   n = nodes t
 
   abbrev pub O : Ordered first n
-  O = K .joins .ordered
+  O = ordered t (K .joins .given .accepted)
+
+  pub few : n ≤ 1024
+  few = accepted-numbers t (K .joins .given .accepted) .few
 
   abbrev pub S : Siblings t f c end
   S = K .joins .rowed .siblings
@@ -159,7 +166,7 @@ module _ (K : Joining) where
       ∙ join-new D row c child
 
   pub next-bound : lastPlace (rowDrawn first n D f (suc c)) ≤ 1047552
-  next-bound = row-bound first n O D (K .joins .few) (K .joins .given .high) f (suc c) (omega (arith, S .some)) small-n (omega (arith, S .one-level, K .joins .inside))
+  next-bound = row-bound first n O D few (K .joins .given .high) f (suc c) (omega (arith, S .some)) small-n (omega (arith, S .one-level, K .joins .inside))
 
   pub row-last-bound : lastPlace row ≤ 1047552
-  row-last-bound = row-bound first n O D (K .joins .few) (K .joins .given .high) f c (S .some) (omega (arith, small-n)) (omega (arith, S .one-level, K .joins .inside))
+  row-last-bound = row-bound first n O D few (K .joins .given .high) f c (S .some) (omega (arith, small-n)) (omega (arith, S .one-level, K .joins .inside))

@@ -122,10 +122,10 @@ module _ {K : Joining} {now : List ℤ} {s : Stand} (C : Contour K now s) where
   mid-rest : drop (16 * nodes t) mid ≡ drop (16 * nodes t) now
   mid-rest = mid-law (λ l. drop (16 * nodes t) l ≡ drop (16 * nodes t) now) refl (shared-rest now i c close met-before-c (nodes t) (small-n K))
 
-  mid-grown : (g p : ℕ) → SHIFT ≤ g → g ≤ CHANGE → natAbs (get mid g p) ≤ natAbs (get now g p) + close
-  mid-grown g p l r =
+  mid-grown : (g p : ℕ) → g < 16 → natAbs (get mid g p) ≤ natAbs (get now g p) + close
+  mid-grown g p h =
       mid-law (λ w. natAbs (get w g p) ≤ natAbs (get now g p) + close) (omega arith)
-      (shared-grown now i c close met-before-c (omega (arith, inside, small-n K)) g p l r)
+      (shared-grown now i c close met-before-c (omega (arith, inside, small-n K)) g p h)
 
   -- ---- the mark
 
@@ -202,7 +202,7 @@ module _ {K : Joining} {now : List ℤ} {s : Stand} (C : Contour K now s) where
             (λ e. ⊎-elim (λ h. omega (arith, h, e)) (λ h. omega (arith, h, e, met-before-c)) q) (λ e. ⊎-elim (λ h. omega (arith, h, e, S K .some)) (λ h. omega (arith, h, e)) q)
             ∙ C .kept .still g p l r q;
         small = λ g p l r h q.
-            omega (arith, ap natAbs (next-field g p (omega arith) (λ e. omega arith)), mid-grown g p l r, C .kept .small g p l r h q);
+            omega (arith, ap natAbs (next-field g p (omega arith) (λ e. omega arith)), mid-grown g p (omega arith), C .kept .small g p l r h q);
         ancestor = λ z. ⊎-elim
             (λ e. inr (ap (get next ANCESTOR) (e .0) ∙ next-mark, subst (λ (w : ℕ). 1 ≤ occurs t c (suc c) w) (sym (e .0)) (child-on K (lastOf (W .y)) _ (last-child-on C))))
             (λ d. ⊎-elim (λ e. inl (next-others z (d .0) ∙ e)) (λ e. inr (next-others z (d .0) ∙ e .0, e .1)) (C .kept .ancestor z))

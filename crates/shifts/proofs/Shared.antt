@@ -1,5 +1,5 @@
 -- One meeting of children i and c in the working slice: the shifts and changes are those of a meeting, and nothing else changes. Assumes nothing.
-use mathlib.Core.Path.{_≡_, ap, _∙_}
+use mathlib.Core.Path.{_≡_, sym, ap, _∙_, subst₂}
 use mathlib.Core.Logic.{⊎-elim}
 use mathlib.Core.List.{List}
 use Prim.Native.Nat.{ℕ, _+_, _-_, _*_, _/_, _≤_, _<_}
@@ -78,70 +78,31 @@ module _ (work : List ℤ) (i c s : ℕ) where
             other-change = λ p d e. shared-position CHANGE p (omega arith) e d;
           }
 
-      abbrev after : List ℤ
-      after = shared work i c s
+      -- ---- how far the numbers can grow
 
-      -- ---- how far a shift and a change can grow
+      -- no field of a position is more than s larger
+      abbrev Grown : List ℤ → Type 0
+      Grown l = (k p : ℕ) → k < 16 → natAbs (get l k p) ≤ natAbs (get work k p) + s
 
-      share-small : (c - i) * quotient i c s ≤ s
-      share-small = mul-div-le s (c - i)
+      put-grown : (l : List ℤ) (field q : ℕ) (z : ℤ) → field < 16 → cell q field < length l → natAbs z ≤ natAbs (get work field q) + s → Grown l
+          → Grown (put l field q z)
+      put-grown l field q z small within b G k p h =
+          ⊎-elim (λ e.
+          ⊎-elim (λ d.
+          subst₂ (λ (x y : ℕ). natAbs (get (put l field q z) x y) ≤ natAbs (get work x y) + s) (sym (d .0)) (sym (e .0))
+          (omega (arith, ap natAbs (put-same l field q z within), b)))
+          (λ d. omega (arith, ap natAbs (put-field l field q z small k p h (d .0)), G k p h))
+          (is-cases k field))
+          (λ e. omega (arith, ap natAbs (put-position l field q z small k p h (e .0)), G k p h))
+          (is-cases p q)
 
-      quotient-small : quotient i c s ≤ s
-      quotient-small = div-le-self s (c - i)
-
-      shared-shift : (p : ℕ) → natAbs (get after SHIFT p) ≤ natAbs (get work SHIFT p) + s
-      shared-shift p = ⊎-elim (λ e. grown (e .0)) (λ d. kept (d .0)) (is-cases p c)
-        where
-          grown : p ≡ c → natAbs (get after SHIFT p) ≤ natAbs (get work SHIFT p) + s
-          grown e =
-              omega (
-                arith,
-                ap (λ (x : ℕ). natAbs (get after SHIFT x)) e,
-                ap (λ (x : ℕ). natAbs (get work SHIFT x)) e,
-                ap natAbs (shared-met .right-shift),
-                natAbs-add (get work SHIFT c) (pos ((c - i) * quotient i c s)),
-                share-small,
-              )
-
-          kept : (p ≡ c → ⊥) → natAbs (get after SHIFT p) ≤ natAbs (get work SHIFT p) + s
-          kept d = omega (arith, ap natAbs (shared-met .other-shift p d))
-
-      shared-change : (p : ℕ) → natAbs (get after CHANGE p) ≤ natAbs (get work CHANGE p) + s
-      shared-change p = ⊎-elim (λ e. right (e .0)) (λ d. ⊎-elim (λ e. left (e .0)) (λ e. kept (d .0) (e .0)) (is-cases p i)) (is-cases p c)
-        where
-          right : p ≡ c → natAbs (get after CHANGE p) ≤ natAbs (get work CHANGE p) + s
-          right e =
-              omega (
-                arith,
-                ap (λ (x : ℕ). natAbs (get after CHANGE x)) e,
-                ap (λ (x : ℕ). natAbs (get work CHANGE x)) e,
-                ap natAbs (shared-met .right-change),
-                natAbs-sub (get work CHANGE c) (pos (quotient i c s)),
-                quotient-small,
-              )
-
-          left : p ≡ i → natAbs (get after CHANGE p) ≤ natAbs (get work CHANGE p) + s
-          left e =
-              omega (
-                arith,
-                ap (λ (x : ℕ). natAbs (get after CHANGE x)) e,
-                ap (λ (x : ℕ). natAbs (get work CHANGE x)) e,
-                ap natAbs (shared-met .left-change),
-                natAbs-add (get work CHANGE i) (pos (quotient i c s)),
-                quotient-small,
-              )
-
-          kept : (p ≡ c → ⊥) → (p ≡ i → ⊥) → natAbs (get after CHANGE p) ≤ natAbs (get work CHANGE p) + s
-          kept d e = omega (arith, ap natAbs (shared-met .other-change p d e))
-
-      -- both are SHIFT or CHANGE
-      pub shared-grown : (g p : ℕ) → SHIFT ≤ g → g ≤ CHANGE → natAbs (get after g p) ≤ natAbs (get work g p) + s
-      shared-grown g p l r =
-          ⊎-elim (λ e. omega (arith, ap (λ (x : ℕ). natAbs (get after x p)) (e .0), ap (λ (x : ℕ). natAbs (get work x p)) (e .0), shared-shift p))
-          (λ d.
-          let e : g ≡ CHANGE = the-other (d .0) in
-          omega (arith, ap (λ (x : ℕ). natAbs (get after x p)) e, ap (λ (x : ℕ). natAbs (get work x p)) e, shared-change p))
-          (is-cases g SHIFT)
-        where
-          the-other : (g ≡ SHIFT → ⊥) → g ≡ CHANGE
-          the-other d = omega arith
+      pub shared-grown : Grown (shared work i c s)
+      shared-grown =
+          let q = quotient i c s in
+          let few : q ≤ s = div-le-self s (c - i) in
+          let longer = put-length work SHIFT c (rightShift work i c s) in
+          put-grown lessened CHANGE i (leftChange work i c s) (omega arith) (omega (arith, longer, put-length shifted CHANGE c (rightChange work i c s)))
+          (omega (arith, natAbs-add (get work CHANGE i) (pos q)))
+          (put-grown shifted CHANGE c (rightChange work i c s) (omega arith) (omega (arith, longer)) (omega (arith, natAbs-sub (get work CHANGE c) (pos q)))
+          (put-grown work SHIFT c (rightShift work i c s) (omega arith) (omega arith)
+          (omega (arith, natAbs-add (get work SHIFT c) (pos ((c - i) * q)), mul-div-le s (c - i))) (λ k p h. omega arith)))

@@ -16,7 +16,8 @@ use Rattle.families.specs.Families.{FamiliesFrom}
 use Rattle.level_order.proofs.Cells.{put-length}
 use Rattle.level_order.proofs.Positions.{Ordered}
 use Rattle.level_order.proofs.InOrder.{ordered}
-use Rattle.families.proofs.FamiliesLoop.{DrawnFrom, families-start, first-reads, count-reads, first-value, past-value, families-ready, families-leaf, families-turn, families-end}
+use Rattle.families.proofs.Children.{first-reads, count-reads, first-value, past-value}
+use Rattle.families.proofs.FamiliesLoop.{DrawnFrom, families-start, families-ready, families-leaf, families-turn, families-end}
 use Rattle.families.proofs.families.Statement.{statement}
 use Rattle.families.proofs.families.Tie as tie
 
@@ -49,7 +50,7 @@ module _ (s : tie.Start Inv-loop μ-loop) where
 loop-holds : tie.Need-loop-holds Inv-loop μ-loop
 loop-holds c =
     let s = c .before in
-    families-start (table s) (separation s) (order s) (before s) (s .pre .1 .0) (s .pre .1 .1)
+    families-start (table s) (separation s) (order s) (s .pre .1 .0) (s .pre .1 .1)
 
 sub-p : tie.Need-sub-p Inv-loop μ-loop
 sub-p c = omega (arith, c .loop-test .taken)
@@ -86,13 +87,13 @@ module _ (c : tie.In-loop Inv-loop μ-loop) where
 position-requires : tie.Need-position-requires Inv-loop μ-loop
 position-requires c κs =
     let q = c .before in
-    first-reads (t q) (D q) (order (start q)) (r q) (before (start q)) (work q) (drawn q) (few q)
+    first-reads (t q) (given (start q) .accepted) (drawn q .numbered) (r q) (drawn q .inside)
 
 past-requires : tie.Need-past-requires Inv-loop μ-loop
 past-requires c κs =
     let q = c .before .before .before in (
-      first-reads (t q) (D q) (order (start q)) (r q) (before (start q)) (work q) (drawn q) (few q),
-      count-reads (t q) (D q) (order (start q)) (r q) (before (start q)) (work q) (drawn q) (few q),
+      first-reads (t q) (given (start q) .accepted) (drawn q .numbered) (r q) (drawn q .inside),
+      count-reads (t q) (given (start q) .accepted) (drawn q .numbered) (r q) (drawn q .inside),
     )
 
 -- the children's positions are read
@@ -101,17 +102,17 @@ module _ (c : tie.After-past Inv-loop μ-loop) where
   turn = c .before .before .before .before
 
   first-read : c .before .before .position .result ≡ firstAt (treeOf (t turn)) (r turn)
-  first-read = c .before .before .position .ensures ∙ first-value (t turn) (D turn) (order (start turn)) (r turn) (before (start turn)) (work turn) (drawn turn)
+  first-read = c .before .before .position .ensures ∙ first-value (t turn) (given (start turn) .accepted) (drawn turn .numbered) (r turn) (drawn turn .inside)
 
   past-read : c .past .result ≡ firstAt (treeOf (t turn)) (suc (r turn))
-  past-read = c .past .ensures ∙ past-value (t turn) (D turn) (order (start turn)) (r turn) (before (start turn)) (work turn) (drawn turn)
+  past-read = c .past .ensures ∙ past-value (t turn) (given (start turn) .accepted) (drawn turn .numbered) (r turn) (drawn turn .inside)
 
 family-requires : tie.Need-family-requires Inv-loop μ-loop
 family-requires c κs =
     let a = c .before .before in
     let q = turn a in (
       given (start q),
-      families-ready (t q) (D q) (order (start q)) (r q) (before (start q)) (work q) (drawn q)
+      families-ready (t q) (D q) (order (start q)) (drawn q)
           (omega (arith, first-read a, past-read a, c .before .if1 .taken)),
     )
 
@@ -121,7 +122,7 @@ loop-less c = omega (arith, next (turn (c .before .before .before .before)))
 loop-again : tie.Need-loop-again Inv-loop μ-loop
 loop-again c =
     let q = turn (c .before .before .before .before) in
-    families-turn (t q) (D q) (order (start q)) (r q) (before (start q)) (work q) (drawn q) _ (c .before .family .ensures)
+    families-turn (t q) (D q) (order (start q)) (drawn q) (c .before .family .ensures)
 
 loop-less-2 : tie.Need-loop-less-2 Inv-loop μ-loop
 loop-less-2 c = omega (arith, next (turn (c .before)))
@@ -130,7 +131,7 @@ loop-again-2 : tie.Need-loop-again-2 Inv-loop μ-loop
 loop-again-2 c =
     let a = c .before in
     let q = turn a in
-    families-leaf (t q) (D q) (order (start q)) (r q) (before (start q)) (work q) (drawn q)
+    families-leaf (t q) (D q) (order (start q)) (drawn q)
     (omega (arith, first-read a, past-read a, c .if1 .left))
 
 -- after the loop
@@ -159,7 +160,7 @@ returns : tie.Need-returns Inv-loop μ-loop
 returns c =
     let a = c .before .before in
     subst (FamiliesFrom (table (begun a)) (separation (begun a)) (before (begun a))) (sym (c .before .put .ensures))
-    (families-end (table (begun a)) (separation (begun a)) (order (begun a)) (links (begun a) .some) (before (begun a)) (all-drawn a) (ended a))
+    (families-end (table (begun a)) (separation (begun a)) (order (begun a)) (links (begun a) .some) (ended a))
 
 pub families-spec : {M : Type 1} → statement M
 families-spec =

@@ -13,14 +13,13 @@ use mir.ValLaws.{toZ-ofZ}
 use Rattle.tree.specs.Table.{nodes}
 use Rattle.tree.specs.Forest.{treeOf}
 use Rattle.tree.proofs.Followed.{accepted-linked}
-use Rattle.rule.specs.Join.{above0}
 use Rattle.level_order.specs.LevelOrder.{firstAt}
-use Rattle.level_order.specs.Fields.{get, put, FIRST, COUNT, PLACE, LEFT, RIGHT}
-use Rattle.families.specs.Descent.{Reads}
+use Rattle.level_order.specs.Fields.{get, put, PLACE, LEFT, RIGHT}
 use Rattle.shifts.specs.Shifts.{Bounded, Executed}
 use Rattle.families.specs.Joining.{Given}
 use Rattle.families.specs.Families.{Ready, Begun, AllJoined}
 use Rattle.level_order.proofs.Cells.{put-length}
+use Rattle.families.proofs.Children.{first-reads, count-reads, first-value, past-value}
 use Rattle.families.proofs.FamilyStart.{family-begun, f-inside, fits}
 use Rattle.families.proofs.FamilyEnd.{joined-few, joined-room, joined-last, joined-bounded, family-drawn}
 use Rattle.families.proofs.family.family.Statement.{statement}
@@ -65,27 +64,15 @@ module _ (s : tie.Start) where
   end-below : end ≤ nodes table
   end-below = fits given ready
 
-  first-reads : Reads before FIRST p
-  first-reads =
-      record {
-        inside = omega (arith, ready .numbered .size, ready .inside);
-        small = (f, omega (arith, f-below, few), ready .numbered .first p (ready .inside));
-      }
-
-  count-reads : Reads before COUNT p
-  count-reads =
-      record {
-        inside = omega (arith, ready .numbered .size, ready .inside);
-        small = (end - f, omega (arith, end-below, few), ready .numbered .count p (ready .inside));
-      }
-
 position-requires : tie.Need-position-requires
-position-requires c κs = first-reads (c .before .before)
+position-requires c κs =
+    let s = c .before .before in
+    first-reads (table s) (given s .accepted) (ready s .numbered) (p s) (ready s .inside)
 
 past-requires : tie.Need-past-requires
 past-requires c κs =
     let s = c .before .before .before .before in
-    (first-reads s, count-reads s)
+    (first-reads (table s) (given s .accepted) (ready s .numbered) (p s) (ready s .inside), count-reads (table s) (given s .accepted) (ready s .numbered) (p s) (ready s .inside))
 
 -- the two ends of the row are read
 module _ (c : tie.After-past) where
@@ -93,17 +80,10 @@ module _ (c : tie.After-past) where
   s = c .before .before .before .before .before
 
   f-read : c .before .before .position .result ≡ f s
-  f-read = c .before .before .position .ensures ∙ ap above0 (ready s .numbered .first (p s) (ready s .inside))
+  f-read = c .before .before .position .ensures ∙ first-value (table s) (given s .accepted) (ready s .numbered) (p s) (ready s .inside)
 
   end-read : c .past .result ≡ end s
-  end-read =
-      omega (
-        arith,
-        c .past .ensures,
-        ap above0 (ready s .numbered .first (p s) (ready s .inside)),
-        ap above0 (ready s .numbered .count (p s) (ready s .inside)),
-        ready s .some,
-      )
+  end-read = c .past .ensures ∙ past-value (table s) (given s .accepted) (ready s .numbered) (p s) (ready s .inside)
 
 put-requires : tie.Need-put-requires
 put-requires c κs =

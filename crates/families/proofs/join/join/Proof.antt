@@ -9,14 +9,12 @@ use lib.ListN.{length}
 use mir.Syntax.{w32}
 use mir.Val.{toZ}
 use Rattle.tree.specs.Table.{nodes}
-use Rattle.tree.proofs.Followed.{accepted-linked}
 use Rattle.level_order.specs.Fields.{put, PLACE}
 use Rattle.level_order.proofs.Signed32.{stored, Held, held, plus, signed, natural}
-use Rattle.level_order.proofs.InOrder.{ordered}
 use Rattle.families.specs.declared.join.Stand.{Stand}
 use Rattle.families.specs.Descent.{Level, Threads, Steps, topLevel, lower, isEnd, threaded, newDefault}
 use Rattle.families.specs.Joining.{Joined}
-use Rattle.families.proofs.Joining.{Joins, Joining, startAt, small-n, last-at, start-here, row-last-bound}
+use Rattle.families.proofs.Joining.{Joins, Joining, joining, few, startAt, small-n, last-at, start-here, row-last-bound}
 use Rattle.families.proofs.Contour.{Contour, pushed, level, room, moved-most, contour-first}
 use Rattle.families.proofs.Meeting.{close, moved, next, kept-next, moved-bound}
 use Rattle.families.proofs.Deeper.{threads, steps-below, contour-lower, fewer-left}
@@ -24,10 +22,6 @@ use Rattle.families.proofs.Threaded.{Ends}
 use Rattle.families.proofs.JoinEnd.{ends, joined}
 use Rattle.families.proofs.join.join.Statement.{statement}
 use Rattle.families.proofs.join.join.Tie as tie
-
-abbrev joining : {t : List ℕ} {D f c end default : ℕ} {before : List ℤ} → Joins t D f c end default before → Joining
-joining {t} {D} {f} {c} {end} {default} {before} H =
-    record { t = t; D = D; f = f; c = c; end = end; default = default; before = before; joins = H }
 
 abbrev Inv-contours : tie.InvT-contours
 Inv-contours table work₀ f c end default separation s₀ start work s = (H : Joins table separation f c end default work₀) × Contour (joining H) work s
@@ -38,15 +32,7 @@ abbrev μ-contours : tie.MeasureT-contours
 -- at the function's start
 module _ (s : tie.Start Inv-contours μ-contours) where
   joins : Joins (s .args .table .now) (s .args .separation) (s .args .f) (s .args .c) (s .args .end) (s .args .default) (s .args .work .now)
-  joins =
-      record {
-        given = s .pre .0;
-        ordered = ordered (s .args .table .now) (s .pre .0 .accepted);
-        few = accepted-linked (s .args .table .now) (s .pre .0 .accepted) .few;
-        rowed = s .pre .1 .0;
-        waiting = s .pre .1 .1 .0;
-        inside = s .pre .1 .1 .1;
-      }
+  joins = record { given = s .pre .0; rowed = s .pre .1 .0; waiting = s .pre .1 .1 .0; inside = s .pre .1 .1 .1 }
 
   abbrev K : Joining
   K = joining joins
@@ -61,7 +47,7 @@ begin-requires : tie.Need-begin-requires Inv-contours μ-contours
 begin-requires c κs =
     let s = c .before .before in
     let H = joins s in (
-      (H .rowed .siblings .some, omega (arith, small-n (K s), H .few), omega (arith, small-n (K s), H .rowed .numbered .size)),
+      (H .rowed .siblings .some, omega (arith, small-n (K s), few (K s)), omega (arith, small-n (K s), H .rowed .numbered .size)),
       (omega (arith, ap natAbs (last-at (K s)), row-last-bound (K s)), omega (arith, ap natAbs (separation-read s), H .given .high)),
     )
 

@@ -59,16 +59,10 @@ module _ (c : tie.After-position2) where
   abbrev start : tie.Start
   start = c .before .before .before .before
 
-  a-read : c .position2 .result ≡ next-a start
-  a-read = c .position2 .ensures
-
-  b-read : c .before .before .position .result ≡ next-b start
-  b-read = c .before .before .position .ensures
-
 -- ---- the row goes deeper
 
 row-deeper : (c : tie.Then1) → next-a (start (c .before)) < next-b (start (c .before))
-row-deeper c = omega (arith, c .if1 .taken, a-read (c .before), b-read (c .before))
+row-deeper c = omega (arith, c .if1 .taken, c .before .position2 .ensures, c .before .before .before .position .ensures)
 
 sub-get : tie.Need-sub-get
 sub-get c = search needs
@@ -146,13 +140,10 @@ module _ (c : tie.After-past) where
   past-start = start firsts
 
   row-ends : next-b past-start ≤ next-a past-start
-  row-ends = omega (arith, c .before .before .if1 .left, a-read firsts, b-read firsts)
-
-  e-read : c .past .result ≡ next-e past-start
-  e-read = c .past .ensures
+  row-ends = omega (arith, c .before .before .if1 .left, firsts .position2 .ensures, firsts .before .before .position .ensures)
 
 child-deeper : (c : tie.Then2) → next-b (past-start (c .before)) < next-e (past-start (c .before))
-child-deeper c = omega (arith, c .if2 .taken, b-read (firsts (c .before)), e-read (c .before))
+child-deeper c = omega (arith, c .if2 .taken, firsts (c .before) .before .before .position .ensures, c .before .past .ensures)
 
 get-requires-2 : tie.Need-get-requires-2
 get-requires-2 c κs = search needs
@@ -223,7 +214,7 @@ returns-3 : tie.Need-returns-3
 returns-3 c =
     let q = c .before in
     let s = past-start q in
-    let child-ends : next-e s ≤ next-b s = omega (arith, c .if2 .left, b-read (firsts q), e-read q) in
+    let child-ends : next-e s ≤ next-b s = omega (arith, c .if2 .left, firsts q .before .before .position .ensures, q .past .ensures) in
     let row-test = le-ltb (next-a s) (next-b s) (row-ends q) in
     let child-test = le-ltb (next-b s) (next-e s) child-ends in
     (rw (row-test, child-test), rw (row-test, child-test))
