@@ -1,4 +1,5 @@
--- Proofs about the written rule.
+-- Why the written rule keeps what the paper asks of it: order and distance on a level, the record, equal shapes, the width, tightness.
+-- Stands on `tree`; `contours` builds on its walk, `second_walk` on its extremes, and `layout` tells its promises of what a call returns.
 pub mod Signed
 pub mod Names
 pub mod Pairs

@@ -1,3 +1,5 @@
+-- Why the reader gives the file's sheet: bytes and words, the loops over the blocks, its number, and the way from a sheet to its file and
+-- back. Stands on `refusal`; `render` cites what a file that can be read has.
 pub mod Answer
 pub mod Below
 pub mod Blocks

@@ -1,4 +1,5 @@
--- The sheet file (blocks, layout), what reading one gives, the file of a sheet, and what the reader's inner steps promise.
+-- The sheet file (blocks, layout), what reading one gives, the file of a sheet, and what the reader's inner steps promise. Stands on
+-- `refusal`; `render` and `exports` call the reader.
 pub mod Below
 pub mod Block
 pub mod Layout

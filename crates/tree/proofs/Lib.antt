@@ -1,4 +1,5 @@
--- Proofs about tree tables: lists and counting, the tree of a table, what the operations give, and the loops of the code in lists.
+-- Why a table is refused or is the table of one tree: lists and counting, the tree of a table, what the operations give, and the loops of
+-- the code in lists. Stands on `refusal`; `rule`, `level_order` and what stands on them cite the tree's part.
 pub mod Counting
 pub mod Tests
 pub mod Places

@@ -1,4 +1,5 @@
--- The tree table, the ordered tree that it stands for, and what the three operations on it give.
+-- The tree table, the ordered tree that it stands for, and what the three operations on it give. Stands on `refusal`; `rule` draws the
+-- tree, and every stage of the layout takes its table from here.
 pub mod Numbers
 pub mod Table
 pub mod Forest
