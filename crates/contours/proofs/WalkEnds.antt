@@ -1,60 +1,19 @@
--- The two ends of the contour walk: where it starts, and what holds when either contour has no further level. Assumes nothing.
+-- The end of the contour walk: what holds when either contour has no further level. Assumes nothing.
 use mathlib.Core.Path.{_≡_, refl, sym, ap, _∙_}
 use mathlib.Core.List.{List, [], _∷_, _++_, map, append-nil}
-use Prim.Native.Nat.{ℕ, _+_, _≤_, _<_}
+use Prim.Native.Nat.{ℕ, _+_, _<_}
 use native.Mathlib.Omega.{arith}
-use lib.IntN.{ℤ, pos, _+ℤ_, _-ℤ_, +ℤ-idr}
+use lib.IntN.{ℤ, pos, _+ℤ_, _-ℤ_}
 use lib.ListN.{length}
 use Rattle.tree.proofs.Counting.{All, all-left}
 use Rattle.rule.specs.Drawing.{Dot, firstOf, lastOf, leftContour, rightContour}
 use Rattle.rule.specs.Join.{Meeting, meet, total}
 use Rattle.rule.proofs.Moving.{shiftBy}
-use Rattle.contours.specs.Contours.{LeftSteps, RightSteps}
 use Rattle.contours.specs.Rows.{Outside}
-use Rattle.contours.proofs.Runs.{Runs}
 use Rattle.contours.proofs.Contour.{Thread, covered, threaded, deeper}
 use Rattle.contours.proofs.Threads.{meet-none}
 use Rattle.contours.proofs.Owners.{Marked, Default, kept, moved, lower}
-use Rattle.contours.proofs.Walk.{Join, Fields, Stand, allMet, pendingIn, Moves, Walking, Turned, amount, owner, metNow, whole-now, moved-now, moves-now, marked-now}
-
--- ---- the start
-
-module _ {J : Join} {now : Fields} {s : Stand} {x y : List Dot} {xs ys : List (List Dot)} (ex : J .row ≡ x ∷ xs) (ey : J .child ≡ y ∷ ys) where
-  pub walk-start : s .e ≤ J .first (s .a) → s .e ≤ J .n → Runs (J .first) (s .a) (s .b) (x ∷ xs) → Runs (J .first) (s .b) (s .e) (y ∷ ys)
-      → LeftSteps (J .left) (x ∷ xs) → RightSteps (J .right) (x ∷ xs) → LeftSteps (J .left) (y ∷ ys) → RightSteps (J .right) (y ∷ ys)
-      → s .right ≡ (lastOf x) .place → s .left ≡ (firstOf y) .place → s .outerLeft ≡ (firstOf x) .place → s .outerRight ≡ (lastOf y) .place → s .moved ≡ 0
-      → Walking J now now s
-  walk-start one fits rr rc lr rrow lc rch er el eol eor em =
-      record {
-        above-row = [];
-        above-child = [];
-        x = x;
-        y = y;
-        xs = xs;
-        ys = ys;
-        met = [];
-        row = ex;
-        child = ey;
-        level = refl;
-        one-level = one;
-        fits = fits;
-        runs-row = rr;
-        runs-child = rc;
-        left-row = lr;
-        right-row = rrow;
-        left-child = lc;
-        right-child = rch;
-        right-at = er;
-        left-at = el;
-        outer-left = eol;
-        outer-right = eor;
-        moved = em;
-        whole = rw (ex, ey, em);
-        moves = record { row = λ p h k. sym (+ℤ-idr (pendingIn J now p)); beyond = λ p h k. refl };
-        passed = tt;
-        marked = tt;
-        unmarked = λ z a. refl;
-      }
+use Rattle.contours.proofs.Walk.{Join, Fields, Stand, allMet, Moves, Walking, Turned, amount, owner, metNow, whole-now, moved-now, moves-now, marked-now}
 
 -- ---- from the last level to the whole
 

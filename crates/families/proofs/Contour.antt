@@ -1,11 +1,11 @@
 -- The walk of one join over the working slice: what holds on every level, and at the start. Assumes nothing.
-use mathlib.Core.Path.{_≡_, refl, sym, ap, _∙_, subst}
+use mathlib.Core.Path.{_≡_, refl, sym, ap, ap₂, _∙_, subst}
 use mathlib.Core.Logic.{_⊎_, inl}
 use mathlib.Core.List.{List, [], _∷_, List·Memᴰ}
 use Prim.Native.Nat.{ℕ, suc, _+_, _-_, _*_, _≤_, _<_}
 use native.Mathlib.Nat.{not-suc-le-zero}
 use native.Mathlib.Omega.{arith}
-use lib.IntN.{ℤ, pos, natAbs}
+use lib.IntN.{ℤ, pos, natAbs, +ℤ-idr}
 use lib.ListN.{length, drop}
 use Rattle.tree.specs.Table.{nodes}
 use Rattle.tree.specs.Forest.{treeOf}
@@ -16,13 +16,11 @@ use Rattle.rule.proofs.AtOnce.{total-append}
 use Rattle.rule.proofs.OnLevel.{OnLevel}
 use Rattle.rule.proofs.LevelEnds.{last-mem, first-mem}
 use Rattle.level_order.specs.Numbered.{Numbered}
-use Rattle.level_order.specs.Fields.{get, NODE, FIRST, COUNT, LEFT, RIGHT, ANCESTOR, SHIFT, CHANGE}
-use Rattle.contours.specs.Contours.{LeftSteps, RightSteps}
+use Rattle.level_order.specs.Fields.{get, NODE, FIRST, COUNT, ANCESTOR, SHIFT, CHANGE}
 use Rattle.contours.specs.Rows.{placeAt}
 use Rattle.contours.proofs.Runs.{Runs}
 use Rattle.contours.proofs.Walk.{Walking}
 use Rattle.contours.proofs.Walk as walk
-use Rattle.contours.proofs.WalkEnds.{walk-start}
 use Rattle.contours.proofs.Places.{row-first}
 use Rattle.contours.proofs.Steps.{row-top}
 use Rattle.contours.proofs.RowNext.{fieldsOf}
@@ -179,20 +177,36 @@ module _ (K : Joining) where
       let C = split-child (width (row K)) c (startAt K) (child K) in
       let R = K .joins .rowed .row in
       let e : c + 1 ≡ suc c = omega arith in
-      walk-start (T .2) (C .1)
-      (omega (arith, K .joins .inside, S K .one-level))
-      (omega (arith, small-n K))
-      (subst (Runs (first K) f c) (T .2) (row-runs K))
-      (subst (λ (x : ℕ). Runs (first K) c x ((dot (width (row K)) c (pos (0 + startAt K)) ∷ []) ∷ C .0)) (sym e) (subst (Runs (first K) c (suc c)) (C .1) (child-runs K)))
-      (subst (LeftSteps (get before LEFT)) (T .2) (R .left-steps))
-      (subst (RightSteps (get before RIGHT)) (T .2) (R .right-steps))
-      (subst (LeftSteps (get before LEFT)) (C .1) (child-left K))
-      (subst (RightSteps (get before RIGHT)) (C .1) (child-right K))
-      (last-at K ∙ sym (T .3))
-      (start-here K ∙ ap pos (omega arith))
-      (K .joins .rowed .first-place ∙ ap pos (sym (row-first (first K) (nodes (K .t)) (O K) D (c - f - 1) f c (omega (arith, S K .some)) (omega (arith, small-n K)))) ∙ sym (T .4))
-      (start-here K ∙ ap pos (omega arith))
-      refl
+      record {
+        above-row = [];
+        above-child = [];
+        x = T .0;
+        y = dot (width (row K)) c (pos (0 + startAt K)) ∷ [];
+        xs = T .1;
+        ys = C .0;
+        met = [];
+        row = T .2;
+        child = C .1;
+        level = refl;
+        one-level = omega (arith, K .joins .inside, S K .one-level);
+        fits = omega (arith, small-n K);
+        runs-row = rw (T .2) at (row-runs K);
+        runs-child = subst (λ (x : ℕ). Runs (first K) c x ((dot (width (row K)) c (pos (0 + startAt K)) ∷ []) ∷ C .0)) (sym e) (subst (Runs (first K) c (suc c)) (C .1) (child-runs K));
+        left-row = rw (T .2) at (R .left-steps);
+        right-row = rw (T .2) at (R .right-steps);
+        left-child = rw (C .1) at (child-left K);
+        right-child = rw (C .1) at (child-right K);
+        right-at = last-at K ∙ sym (T .3);
+        left-at = start-here K ∙ ap pos (omega arith);
+        outer-left = K .joins .rowed .first-place ∙ ap pos (sym (row-first (first K) (nodes (K .t)) (O K) D (c - f - 1) f c (omega (arith, S K .some)) (omega (arith, small-n K)))) ∙ sym (T .4);
+        outer-right = start-here K ∙ ap pos (omega arith);
+        moved = refl;
+        whole = ap₂ (λ (u v : List (List Dot)). rule.meet D 0 (rightContour u) (leftContour v)) (T .2) (C .1);
+        moves = record { row = λ p h k. sym (+ℤ-idr _); beyond = λ p h k. refl };
+        passed = tt;
+        marked = tt;
+        unmarked = λ z a. refl;
+      }
 
   pub contour-first : Contour K before (topLevel before f c (pos D))
   contour-first =
