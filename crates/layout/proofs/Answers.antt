@@ -22,7 +22,7 @@ use Rattle.rule.specs.Record.{SamePairs, flat}
 use Rattle.rule.specs.Result.{Slices, badSeparation, shortResults, shortWork, layoutNumber, placesOf, levelsOf, place, Layout}
 use Rattle.rule.proofs.Promises.{neighbours-count}
 use Rattle.layout.specs.Operation.{slices, answer}
-use Rattle.second_walk.specs.LastPass.{Settled}
+use Rattle.second_walk.specs.SecondWalk.{Settled}
 use Rattle.second_walk.proofs.Recorded.{length-flat}
 use Rattle.second_walk.proofs.EntryForEach.{length-upTo}
 pub use Rattle.second_walk.proofs.Extreme.{least-small, greatest-small}
@@ -167,7 +167,7 @@ module _ (t : List ℕ) (D : ℕ) (s : Slices) where
         let cleared = length-replicate (16 * nodes t) (pos 0) in
         rw (after-accepted, overwrite-split (16 * nodes t) (replicate (16 * nodes t) (pos 0)) ws cleared, overwrite-split (16 * nodes t) (replicate (16 * nodes t) (pos 0)) (s .work) cleared, e)
 
-    -- the last pass over the fronts of the slices, and then the working slice cleared
+    -- the second walk over the fronts of the slices, and then the working slice cleared
     pub layout-accepted : (ps : List ℤ) (ls rs : List ℕ) (ws ws′ wend : List ℤ) (k : ℕ) (low high : ℤ) (many : ℕ)
         → Settled t D ps ls (take (2 * nodes t) (s .theRecord)) rs ws ws′ k low high many
         → drop (16 * nodes t) ws ≡ drop (16 * nodes t) (s .work)

@@ -32,7 +32,7 @@ use Rattle.level_order.proofs.Occurs.{times-all}
 use Rattle.level_order.proofs.PositionTree.{position-tree}
 use Rattle.contours.specs.Rows.{Offsets}
 use Rattle.families.specs.Families.{Placed}
-use Rattle.second_walk.specs.LastPass.{Ready}
+use Rattle.second_walk.specs.SecondWalk.{Ready}
 use Rattle.layout.proofs.Redrawn.{renameDot, rename-stands}
 
 -- ---- a drawing of positions whose dots stand where X and L say

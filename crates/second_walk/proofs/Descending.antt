@@ -15,7 +15,7 @@ use Rattle.rule.proofs.Extremes.{root-place, small-place}
 use Rattle.level_order.specs.Fields.{get, put, NODE, PARENT, PLACE, LEVEL}
 use Rattle.level_order.proofs.Cells.{put-length, put-same, put-field, put-position, put-rest}
 use Rattle.level_order.proofs.Order.{node-below, root-first}
-use Rattle.second_walk.specs.LastPass.{FromParent, Ready, Descends, descended, Seen}
+use Rattle.second_walk.specs.SecondWalk.{FromParent, Ready, Descends, descended, Seen}
 use Rattle.second_walk.proofs.Positions.{numberAt, placeAt, levelAt}
 
 pub record Stands (D : ℕ) (t : List ℕ) (work : List ℤ) (q : ℕ) : Type 0 where

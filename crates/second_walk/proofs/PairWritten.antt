@@ -6,7 +6,7 @@ use Prim.Native.Nat.{ℕ, _+_, _*_}
 use lib.Dec.{eqb}
 use lib.IntN.{ℤ}
 use lib.ListN.{set}
-use Rattle.second_walk.specs.LastPass.{Seen, Pairs, Paired}
+use Rattle.second_walk.specs.SecondWalk.{Seen, Pairs, Paired}
 use Rattle.second_walk.proofs.SeenPosition.{same-node, same-level}
 
 pub pair-written : {work : List ℤ} {left right : ℕ} {measured : List ℕ} {pairs u w : ℕ} (P : Pairs work left right measured pairs) (b : Bool)

@@ -15,7 +15,7 @@ use Rattle.tree.specs.Levels.{Pair, levels, together, level, neighbours}
 use Rattle.tree.specs.WellFormed.{tableNumber}
 use Rattle.tree.proofs.Stands.{accepted-size}
 use Rattle.rule.specs.Record.{flat}
-use Rattle.second_walk.specs.LastPass.{paired}
+use Rattle.second_walk.specs.SecondWalk.{paired}
 use Rattle.level_order.proofs.Order.{node-order, length-levels}
 use Rattle.level_order.proofs.Beside.{link, pairsOn, pairs-next, pairs-few, neighbours-order}
 use Rattle.second_walk.proofs.Positions.{numberAt, levelAt}

@@ -10,7 +10,7 @@ use mir.Syntax.{w16, w32}
 use mir.Val.{Fits, toZ, ofZ}
 use Rattle.level_order.specs.Fields.{get, NODE, LEVEL}
 use Rattle.level_order.proofs.Signed32.{unsigned, castable}
-use Rattle.second_walk.specs.LastPass.{Seen}
+use Rattle.second_walk.specs.SecondWalk.{Seen}
 
 module _ {work : List ℤ} {p v l : ℕ} (S : Seen work p v l) where
   module _ {w k : ℕ} (R : Seen work p w k) where

@@ -1,4 +1,4 @@
--- The last pass, position by position: what holds before position p, after one turn, and at the end. Assumes nothing.
+-- The second walk, position by position: what holds before position p, after one turn, and at the end. Assumes nothing.
 use mathlib.Core.Path.{_≡_, refl, sym, ap, _∙_}
 use mathlib.Core.List.{List}
 use Prim.Native.Nat.{ℕ, _+_, _-_, _≤_, _<_}
@@ -18,7 +18,7 @@ use Rattle.rule.proofs.Extremes.{root-place}
 use Rattle.level_order.specs.Fields.{get, put, PARENT, PLACE, LEVEL}
 use Rattle.level_order.proofs.Order.{node-below}
 use Rattle.level_order.proofs.Beside.{last-count}
-use Rattle.second_walk.specs.LastPass.{Ready, descended, Seen, Writes, Written, Pairs, Paired, Lengths, Settled}
+use Rattle.second_walk.specs.SecondWalk.{Ready, descended, Seen, Writes, Written, Pairs, Paired, Lengths, Settled}
 use Rattle.second_walk.proofs.Positions.{numberAt, placeAt, levelAt, ByNumber, by-number-start, by-number-next, by-number-end}
 use Rattle.second_walk.proofs.Extreme.{AtLeast, Extreme, extreme-start, least-next, greatest-next, least-end, greatest-end}
 use Rattle.second_walk.proofs.Recorded.{Recorded, recorded-start, recorded-few, recorded-room, recorded-next, recorded-count, recorded-end}

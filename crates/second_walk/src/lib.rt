@@ -5,8 +5,8 @@ ghost use lib.IntN.{pos};
 ghost use Rattle.tree.specs.WellFormed.{tableNumber};
 ghost use Rattle.rule.specs.Result as result;
 ghost use Rattle.level_order.specs.Fields as fields;
-ghost use Rattle.second_walk.specs.LastPass.{Ready, Descends, descended, Writes, Written, Pairs, Paired, Lengths};
-ghost use Rattle.second_walk.specs.LastPass as pass;
+ghost use Rattle.second_walk.specs.SecondWalk.{Ready, Descends, descended, Writes, Written, Pairs, Paired, Lengths};
+ghost use Rattle.second_walk.specs.SecondWalk as walk;
 use level_order::field;
 
 pub struct Settled {
@@ -78,7 +78,7 @@ pub fn second_walk(
     requires { ⌜ separation ≤ 1024 ⌝ }
     requires { ⌜ Lengths (now table) (now places) (now levels) (now measured) ⌝ }
     requires { ⌜ Ready separation (now table) (now work) ⌝ }
-    ensures { λ r. ⌜ pass.Settled (now (table .entry)) separation (now (places .exit)) (now (levels .exit)) (now (measured .entry)) (now (measured .exit)) (now (work .entry)) (now (work .exit)) (r .levels) (r .least) (r .greatest) (r .pairs) ⌝ }
+    ensures { λ r. ⌜ walk.Settled (now (table .entry)) separation (now (places .exit)) (now (levels .exit)) (now (measured .entry)) (now (measured .exit)) (now (work .entry)) (now (work .exit)) (r .levels) (r .least) (r .greatest) (r .pairs) ⌝ }
 {
     let n = table.len() / 2;
     places[0] = 0;

@@ -16,7 +16,7 @@ use Rattle.rule.specs.Result.{Slices, layoutNumber}
 use Rattle.layout.specs.Operation.{slices}
 use Rattle.level_order.specs.Numbered.{NumberedFrom}
 use Rattle.families.specs.Families.{FamiliesFrom}
-use Rattle.second_walk.specs.LastPass.{Ready, Settled}
+use Rattle.second_walk.specs.SecondWalk.{Ready, Settled}
 use Rattle.level_order.proofs.Signed32.{told}
 use Rattle.layout.proofs.Standing
 use Rattle.second_walk.proofs.Extreme.{least-small, greatest-small}

@@ -9,7 +9,7 @@ use lib.Signed.{mag}
 use mir.Syntax.{w32}
 use mir.Val.{toZ, ofZ}
 use Rattle.level_order.specs.Fields.{get, PLACE, LEVEL, put}
-use Rattle.second_walk.specs.LastPass.{Descends, descended}
+use Rattle.second_walk.specs.SecondWalk.{Descends, descended}
 use Rattle.level_order.proofs.Signed32.{Held, told, unsigned, unsigned-fits}
 use Rattle.second_walk.proofs.descend.Statement.{statement}
 use Rattle.second_walk.proofs.descend.Tie as tie

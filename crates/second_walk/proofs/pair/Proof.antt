@@ -3,7 +3,7 @@ use mathlib.Core.Path.{refl, sym, _∙_}
 use mathlib.Core.Bool.{true, false}
 use borrow.Author.Needs.{needs}
 use borrow.Author.Tests.{eq-eqb, ne-eqb}
-use Rattle.second_walk.specs.LastPass.{Pairs}
+use Rattle.second_walk.specs.SecondWalk.{Pairs}
 use Rattle.second_walk.proofs.SeenPosition.{node-number, node-fits, level-number, level-fits}
 use Rattle.second_walk.proofs.PairWritten.{pair-written}
 use Rattle.second_walk.proofs.pair.Statement.{statement}

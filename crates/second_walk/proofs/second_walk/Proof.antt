@@ -10,7 +10,7 @@ use Rattle.tree.specs.Table.{nodes}
 use Rattle.tree.specs.WellFormed.{tableNumber}
 use Rattle.tree.proofs.Stands.{accepted-numbers}
 use Rattle.level_order.proofs.Signed32.{told}
-use Rattle.second_walk.specs.LastPass.{Ready, Lengths, Seen}
+use Rattle.second_walk.specs.SecondWalk.{Ready, Lengths, Seen}
 use Rattle.second_walk.proofs.Positions.{numberAt, levelAt}
 use Rattle.second_walk.proofs.SeenPosition.{level-number, level-fits}
 use Rattle.second_walk.proofs.Descending.{descends}

@@ -6,7 +6,7 @@ use lib.IntN.{natAbs}
 use lib.ListN.{set}
 use mir.Syntax.{w32}
 use mir.Val.{toZ, ofZ}
-use Rattle.second_walk.specs.LastPass.{Writes}
+use Rattle.second_walk.specs.SecondWalk.{Writes}
 use Rattle.level_order.proofs.Signed32.{told, unsigned-fits}
 use Rattle.second_walk.proofs.SeenPosition.{same-node, node-number, level-number, level-fits}
 use Rattle.second_walk.proofs.write.Statement.{statement}

@@ -1,4 +1,4 @@
--- The last pass: what its steps ask and give.
+-- The second walk: what its steps ask and give.
 use Prim.Native.Nat.{ℕ, suc, _+_, _*_, _^_, _≤_, _<_}
 use mathlib.Core.Path.{_≡_}
 use mathlib.Core.Bool.{cond}
