@@ -1,5 +1,5 @@
 -- The families from position p on are drawn: at the start, from one family to the one before it, and at the end. Assumes nothing.
-use mathlib.Core.Path.{_≡_, refl, sym, _∙_, subst}
+use mathlib.Core.Path.{_≡_, refl, _∙_}
 use mathlib.Core.Logic.{inl, inr, ⊎-elim}
 use mathlib.Core.List.{List}
 use Prim.Native.Nat.{ℕ, suc, _-_, _*_, _≤_, _<_}
@@ -9,7 +9,7 @@ use lib.IntN.{ℤ, pos}
 use lib.ListN.{length, drop}
 use Rattle.tree.specs.Table.{nodes}
 use Rattle.tree.specs.Forest.{treeOf}
-use Rattle.tree.proofs.Counting.{is-cases, below-or-not}
+use Rattle.tree.proofs.Counting.{below-or-not, from-more}
 use Rattle.level_order.specs.LevelOrder.{firstAt}
 use Rattle.level_order.specs.Fields.{get, put, NODE, FIRST, COUNT, PLACE, LEFT, RIGHT, ANCESTOR, SHIFT, CHANGE}
 use Rattle.level_order.specs.Numbered.{Numbered, Fresh}
@@ -40,9 +40,6 @@ module _ (t : List ℕ) (D : ℕ) (O : Ordered (firstAt (treeOf t)) (nodes t)) w
 
   abbrev n : ℕ
   n = nodes t
-
-  later-of : (p q : ℕ) → p ≤ q → (q ≡ p → ⊥) → suc p ≤ q
-  later-of p q h d = omega arith
 
   -- ---- at the start
 
@@ -98,14 +95,10 @@ module _ (t : List ℕ) (D : ℕ) (O : Ordered (firstAt (treeOf t)) (nodes t)) w
           below = λ z l k.
               let b = S .below z (omega (arith, l, same)) k in
               (b .0, omega (arith, b .1, same), b .2);
-          subtrees = λ q l k.
-              ⊎-elim (λ s. subst (λ (x : ℕ). Subtree first n D x (get work LEFT) (get work RIGHT)) (sym (s .0)) (subtree-leaf first n O D r (get work LEFT) (get work RIGHT) h))
-              (λ s. S .subtrees q (later-of r q l (s .0)) (omega (arith, k, up)))
-              (is-cases q r);
-          placed = λ p l k.
-              ⊎-elim (λ s. subst (λ (x : ℕ). FamilyPlaced t D work x) (sym (s .0)) (λ q a b. absurd (omega (arith, a, b, h))))
-              (λ s. S .placed p (later-of r p l (s .0)) k)
-              (is-cases p r);
+          subtrees = from-more (λ q. q < first r → Subtree first n D q (get work LEFT) (get work RIGHT)) r
+              (λ k. subtree-leaf first n O D r (get work LEFT) (get work RIGHT) h)
+              (λ q l k. S .subtrees q l (omega (arith, k, up)));
+          placed = from-more (λ p. p < n → FamilyPlaced t D work p) r (λ k q a b. absurd (omega (arith, a, b, h))) (S .placed);
           numbering = S .numbering;
           size = S .size;
           rest = S .rest;
@@ -154,14 +147,8 @@ module _ (t : List ℕ) (D : ℕ) (O : Ordered (firstAt (treeOf t)) (nodes t)) w
             gathered = λ g q a b l. F .gathered g q a b (inl l) ∙ S .gathered g q a b (omega (arith, l, up));
             own = λ z l. F .ancestor-before z l ∙ S .own z (omega (arith, l, up));
             below = now-below;
-            subtrees = λ q l k.
-                ⊎-elim (λ s. subst (λ (x : ℕ). Subtree first n D x (get after LEFT) (get after RIGHT)) (sym (s .0)) (F .subtree))
-                (λ s. old-subtree q (later-of r q l (s .0)) k)
-                (is-cases q r);
-            placed = λ p l k.
-                ⊎-elim (λ s. subst (λ (x : ℕ). FamilyPlaced t D after x) (sym (s .0)) (F .placed))
-                (λ s. old-placed p (later-of r p l (s .0)) k)
-                (is-cases p r);
+            subtrees = from-more (λ q. q < first r → Subtree first n D q (get after LEFT) (get after RIGHT)) r (λ k. F .subtree) old-subtree;
+            placed = from-more (λ p. p < n → FamilyPlaced t D after p) r (λ k. F .placed) old-placed;
             numbering = λ g q h. F .numbering g q h ∙ S .numbering g q h;
             size = F .size ∙ S .size;
             rest = F .rest ∙ S .rest;

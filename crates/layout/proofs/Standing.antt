@@ -1,6 +1,5 @@
 -- Where the positions stand: each at its offset from its parent, one level below it. Assumes nothing.
 use mathlib.Core.Path.{_≡_, refl, sym, ap, _∙_, subst}
-use mathlib.Core.Logic.{⊎-elim}
 use mathlib.Core.List.{List, [], _∷_, List·Memᴰ·head}
 use Prim.Native.Nat.{ℕ, suc, _+_, _*_, _≤_, _<_}
 use native.Mathlib.Omega.{arith}
@@ -11,7 +10,7 @@ use Rattle.tree.specs.Table.{nodes}
 use Rattle.tree.specs.Forest.{Forest, nil, node, roots, entry, siblings, preorder, treeOf}
 use Rattle.tree.specs.Levels.{level}
 use Rattle.tree.specs.WellFormed.{tableNumber}
-use Rattle.tree.proofs.Counting.{All, all-append, is-cases}
+use Rattle.tree.proofs.Counting.{All, all-append, from-more}
 use Rattle.tree.proofs.Tests.{member-all, count-member}
 use Rattle.tree.proofs.Stands.{accepted-numbers, accepted-size}
 use Rattle.rule.specs.Drawing.{Drawing, none, at, middle, Dot, dot, dots}
@@ -63,29 +62,25 @@ module _ (first : ℕ → ℕ) (offset X : ℕ → ℤ) (L : ℕ → ℕ) where
   -- each position of a row stands at its offset from the row's parent
   row-stands : (d : Drawing) (a b m l i : ℕ) (o : ℤ) → Laid first a b (names d) → Offsets offset m d → Stand l (dots i o d)
       → (p : ℕ) → a ≤ p → p < b → (X p ≡ (o +ℤ pos m) +ℤ offset p) × (L p ≡ l)
-  row-stands none a b m l i o G F S p ha hp = absurd (omega (arith, G))
-  row-stands (at v x below after) a b m l i o G F S p ha hp =
-      ⊎-elim (λ s.
-      let here = stand-here l i o v x below after S in
-      let w : v ≡ p = G .0 ∙ sym (s .0) in
-      let z : X v ≡ (o +ℤ pos m) +ℤ offset v =
-      here .0
-      ∙ parts-eq (o +ℤ pos x) ((o +ℤ pos m) +ℤ offset v)
-      (omega (
-        arith,
-        parts-add o (pos x),
-        parts-add o (pos m),
-        parts-add (o +ℤ pos m) (offset v),
-        ap above0 (F .0),
-        ap below0 (F .0),
-        parts-sub (pos x) (pos m),
-      )) in
-      (subst (λ (q : ℕ). X q ≡ (o +ℤ pos m) +ℤ offset q) w z, subst (λ (q : ℕ). L q ≡ l) w (here .1)))
-      (λ s. row-stands after (suc a) b m l i o (G .3) (F .2) (stand-after l i o v x below after S) p (later (s .0)) hp)
-      (is-cases p a)
+  row-stands none a b m l i o G F S = λ p ha hp. absurd (omega (arith, G))
+  row-stands (at v x below after) a b m l i o G F S =
+      from-more (λ p. p < b → (X p ≡ (o +ℤ pos m) +ℤ offset p) × (L p ≡ l)) a
+      (λ hp. subst (λ (q : ℕ). (X q ≡ (o +ℤ pos m) +ℤ offset q) × (L q ≡ l)) (G .0) (first-stands, stand-here l i o v x below after S .1))
+      (row-stands after (suc a) b m l i o (G .3) (F .2) (stand-after l i o v x below after S))
     where
-      later : (p ≡ a → ⊥) → suc a ≤ p
-      later d = omega arith
+      first-stands : X v ≡ (o +ℤ pos m) +ℤ offset v
+      first-stands =
+          stand-here l i o v x below after S .0
+          ∙ parts-eq (o +ℤ pos x) ((o +ℤ pos m) +ℤ offset v)
+          (omega (
+            arith,
+            parts-add o (pos x),
+            parts-add o (pos m),
+            parts-add (o +ℤ pos m) (offset v),
+            ap above0 (F .0),
+            ap below0 (F .0),
+            parts-sub (pos x) (pos m),
+          ))
 
   pub all-children : (d : Drawing) (a b m l i : ℕ) (o : ℤ) → Laid first a b (names d) → Offsets offset m d → Stand l (dots i o d)
       → All Children (preorder (names d))

@@ -18,10 +18,10 @@ use Rattle.tree.specs.WellFormed.{tableNumber}
 use Rattle.tree.proofs.Counting.{All, is-same, below-or-not, count-append, count-outside}
 use Rattle.tree.proofs.Tests.{count-member, none-member, all-at}
 use Rattle.tree.proofs.Stands.{accepted-numbers, accepted-size}
-use Rattle.tree.proofs.Joined.{Some, some, levels-some}
+use Rattle.tree.proofs.Joined.{Some, some, levels-some, length-levels}
 use Rattle.tree.proofs.LevelOf.{count-levels}
 use Rattle.level_order.specs.LevelOrder.{nodeAt}
-use Rattle.level_order.proofs.Order.{node-order, length-levels}
+use Rattle.level_order.proofs.Order.{node-order}
 
 -- the pair of two nodes that follow each other, where they have one level
 abbrev pub link : (ℕ → ℕ) → ℕ → ℕ → List Pair

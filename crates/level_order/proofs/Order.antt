@@ -15,7 +15,7 @@ use Rattle.tree.proofs.Counting.{is-cases, count-outside, below-or-not}
 use Rattle.tree.proofs.Places.{count-at}
 use Rattle.tree.proofs.Walked.{oneDown, levels-down}
 use Rattle.tree.proofs.Stands.{Numbers, accepted-numbers, accepted-size}
-use Rattle.tree.proofs.Joined.{size-join, join-nil, join-assoc}
+use Rattle.tree.proofs.Joined.{size-join, join-nil, join-assoc, length-levels}
 use Rattle.tree.proofs.LevelOf.{count-levels}
 use Rattle.level_order.specs.LevelOrder.{step, nodeAt}
 
@@ -23,10 +23,6 @@ use Rattle.level_order.specs.LevelOrder.{step, nodeAt}
 abbrev pub met : ℕ → Forest → List ℕ
 met zero f = []
 met (suc k) f = entry f ∷ met k (step f)
-
-length-met : (k : ℕ) (f : Forest) → length (met k f) ≡ k
-length-met zero f = refl
-length-met (suc k) f = ap suc (length-met k (step f))
 
 met-at : (k : ℕ) (f : Forest) (p : ℕ) → p < k → getD (met k f) p 0 ≡ nodeAt f p
 met-at zero f p h = absurd (not-suc-le-zero h)
@@ -50,9 +46,6 @@ met-level (suc k) (node v a b) h e =
 
 pub met-levels : (f : Forest) → met (size f) f ≡ together (levels f)
 met-levels f = met-level (size f) nil f (omega arith) ∙ ap (λ (g : Forest). together (levels g)) (join-nil f)
-
-pub length-levels : (f : Forest) → length (together (levels f)) ≡ size f
-length-levels f = sym (ap length (met-levels f)) ∙ length-met (size f) f
 
 -- the node at position p is the p-th on the levels
 pub node-order : (f : Forest) (p : ℕ) → p < size f → nodeAt f p ≡ getD (together (levels f)) p 0

@@ -8,8 +8,7 @@ use lib.Dec.{eqb}
 use lib.ListN.{length, length-append}
 use borrow.Author.Tests.{eq-eqb}
 use Rattle.tree.specs.Numbers.{is, count}
-use Rattle.tree.specs.Forest.{Forest, nil, node, size}
-use Rattle.tree.specs.Levels.{Pair, beside, levels, together, sideBySide}
+use Rattle.tree.specs.Levels.{Pair, together, sideBySide}
 use Rattle.tree.proofs.Counting.{All, sumOver, count-append}
 use Rattle.tree.proofs.Joined.{Some, some}
 use Rattle.rule.specs.Record.{isPair, pairCount}
@@ -57,13 +56,3 @@ pub levels-pairs : (ls : List (List ℕ)) → All Some ls → length (pairsIn ls
 levels-pairs [] a = refl
 levels-pairs (l ∷ ls) a =
     omega (arith, levels-pairs ls (a .1), level-pairs l (a .0), length-append (sideBySide l) (pairsIn ls), length-append l (together ls))
-
-pub length-levels : (f : Forest) → length (together (levels f)) ≡ size f
-length-levels nil = refl
-length-levels (node v f g) = omega (arith, beside-length ((v ∷ []) ∷ levels f) (levels g), length-levels f, length-levels g)
-  where
-    beside-length : (xs ys : List (List ℕ)) → length (together (beside xs ys)) ≡ length (together xs) + length (together ys)
-    beside-length [] ys = omega arith
-    beside-length (x ∷ xs) [] = omega arith
-    beside-length (x ∷ xs) (y ∷ ys) =
-        omega (arith, beside-length xs ys, length-append x y, length-append (x ++ y) (together (beside xs ys)), length-append x (together xs), length-append y (together ys))

@@ -25,13 +25,13 @@ use Rattle.rule.specs.Result.{place}
 use Rattle.rule.proofs.Signed.{parts-add, parts-sub, parts-eq, parts-le}
 use Rattle.rule.proofs.Names.{names-draw}
 use Rattle.rule.proofs.Pairs.{pairs-record, pairsIn}
-use Rattle.rule.proofs.PairCounts.{pairCount-sum, length-sum, levels-once, levels-pairs, length-levels}
+use Rattle.rule.proofs.PairCounts.{pairCount-sum, length-sum, levels-once, levels-pairs}
 use Rattle.rule.proofs.Spacing.{Spaced, row-child, row-drawOnto, row-none}
 use Rattle.rule.proofs.Shapes.{blank, blank-middle, same-drawing}
 use Rattle.rule.proofs.OnLevel.{OnLevel, top, down}
 use Rattle.rule.proofs.Within.{Stands, has-stands, has-draw, blank-alike, Match, alike-match}
 use Rattle.rule.proofs.Lookup.{nodesOf, nodes-drawn, dot-place, dot-level}
-use Rattle.tree.proofs.Joined.{levels-some}
+use Rattle.tree.proofs.Joined.{levels-some, length-levels}
 
 -- ---- 1. the measured pairs are the neighbours
 

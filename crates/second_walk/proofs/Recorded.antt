@@ -16,9 +16,10 @@ use Rattle.tree.specs.WellFormed.{tableNumber}
 use Rattle.tree.proofs.Stands.{accepted-size}
 use Rattle.rule.specs.Record.{flat}
 use Rattle.second_walk.specs.SecondWalk.{paired}
-use Rattle.level_order.proofs.Order.{node-order, length-levels}
+use Rattle.level_order.proofs.Order.{node-order}
 use Rattle.level_order.proofs.Beside.{link, pairsOn, pairs-next, pairs-few, neighbours-order}
 use Rattle.second_walk.proofs.Positions.{numberAt, levelAt}
+use Rattle.tree.proofs.Joined.{length-levels}
 
 pub length-flat : (ps : List Pair) → length (flat ps) ≡ 2 * length ps
 length-flat [] = refl

@@ -1,6 +1,5 @@
 -- The pass that carries the gathered moves out: what holds before each turn, and that its numbers stay small. Assumes nothing.
 use mathlib.Core.Path.{_≡_, refl, sym, ap, ap₂, _∙_, subst}
-use mathlib.Core.Logic.{⊎-elim}
 use mathlib.Core.Bool.{true}
 use mathlib.Core.List.{List}
 use Prim.Native.Nat.{ℕ, zero, suc, _+_, _-_, _*_, _/_, _≤_, _<_}
@@ -9,7 +8,7 @@ use lib.Dec.{T}
 use lib.IntN.{ℤ, pos, negsuc, _+ℤ_, _-ℤ_, natAbs}
 use lib.Signed.{nonNeg, quotZ}
 use lib.ListN.{length}
-use Rattle.tree.proofs.Counting.{is-cases}
+use Rattle.tree.proofs.Counting.{from-more}
 use Rattle.rule.specs.Join.{above0}
 use Rattle.level_order.specs.Fields.{get, put, PLACE, SHIFT, CHANGE}
 use Rattle.contours.specs.Gather.{Carried, carry, gather, pending}
@@ -120,10 +119,7 @@ module _ {f end : ℕ} {before work : List ℤ} {sum rate : ℤ} {q : ℕ} (T : 
       ∙ ap₂ (λ (x y : ℤ). (x +ℤ y) -ℤ pos (half before end)) (I .executed .left PLACE q (omega arith) (omega arith)) (I .sums)
 
   done : (j : ℕ) → q ≤ j → j < end → Done j
-  done j g h = ⊎-elim (λ e. subst Done (sym (e .0)) done-at) (λ d. other PLACE j (omega arith) (d .0) ∙ I .executed .place j (past (d .0)) h) (is-cases j q)
-    where
-      past : (j ≡ q → ⊥) → suc q ≤ j
-      past d = omega arith
+  done = from-more (λ j. j < end → Done j) q (λ h. done-at) (λ j g h. other PLACE j (omega arith) (λ e. omega arith) ∙ I .executed .place j g h)
 
   moves : Executed q end before after
   moves =

@@ -1,6 +1,6 @@
 -- Counting: sums over the numbers below a bound, how often a number occurs in a list, and what follows for lists without repetition.
 -- Assumes nothing.
-use mathlib.Core.Path.{_≡_, refl, sym, ap, ap₂, _∙_}
+use mathlib.Core.Path.{_≡_, refl, sym, ap, ap₂, _∙_, subst}
 use mathlib.Core.Logic.{_⊎_, inl, inr, ⊎-elim}
 use mathlib.Core.Bool.{Bool, true, false, cond}
 use mathlib.Core.List.{List, [], _∷_, _++_, map}
@@ -35,6 +35,13 @@ below-or-not x n = go (ltb x n) refl
     go : (b : Bool) → ltb x n ≡ b → ((x < n) × (ltb x n ≡ true)) ⊎ ((n ≤ x) × (ltb x n ≡ false))
     go true e = inl (ltb-true x n e, e)
     go false e = inr (ltb-false x n e, e)
+
+-- what holds at r and at every later number holds from r on
+pub from-more : (P : ℕ → Type 0) (r : ℕ) → P r → ((q : ℕ) → suc r ≤ q → P q) → (q : ℕ) → r ≤ q → P q
+from-more P r here later q h = ⊎-elim (λ e. subst P (sym (e .0)) here) (λ d. later q (past (d .0))) (is-cases q r)
+  where
+    past : (q ≡ r → ⊥) → suc r ≤ q
+    past d = omega arith
 
 pub count-append : (x : ℕ) (l m : List ℕ) → count x (l ++ m) ≡ count x l + count x m
 count-append x [] m = omega arith

@@ -3,9 +3,10 @@ use mathlib.Core.Path.{_≡_, refl, sym, ap, ap₂, _∙_}
 use mathlib.Core.List.{List, [], _∷_, _++_, map, append-assoc, map-append}
 use Prim.Native.Nat.{ℕ, _+_}
 use native.Mathlib.Omega.{arith}
+use lib.ListN.{length, length-append}
 use Rattle.tree.specs.Numbers.{count}
 use Rattle.tree.specs.Forest.{Forest, nil, node, join, size, preorder, roots}
-use Rattle.tree.specs.Levels.{beside, levels}
+use Rattle.tree.specs.Levels.{beside, levels, together}
 use Rattle.tree.proofs.Counting.{All, count-append}
 
 -- ---- forests
@@ -73,3 +74,15 @@ beside-some (x ∷ xs) (y ∷ ys) a b = (some-front x y (a .0), beside-some xs y
 pub levels-some : (f : Forest) → All Some (levels f)
 levels-some nil = tt
 levels-some (node v f g) = beside-some ((v ∷ []) ∷ levels f) (levels g) (some, levels-some f) (levels-some g)
+
+-- ---- as many places as nodes
+
+pub length-levels : (f : Forest) → length (together (levels f)) ≡ size f
+length-levels nil = refl
+length-levels (node v f g) = omega (arith, beside-length ((v ∷ []) ∷ levels f) (levels g), length-levels f, length-levels g)
+  where
+    beside-length : (xs ys : List (List ℕ)) → length (together (beside xs ys)) ≡ length (together xs) + length (together ys)
+    beside-length [] ys = omega arith
+    beside-length (x ∷ xs) [] = omega arith
+    beside-length (x ∷ xs) (y ∷ ys) =
+        omega (arith, beside-length xs ys, length-append x y, length-append (x ++ y) (together (beside xs ys)), length-append x (together xs), length-append y (together ys))

@@ -9,13 +9,14 @@ use native.Mathlib.Omega.{arith}
 use lib.ListN.{length, getD, set, length-append, length-set}
 use lib.Seq.{getD-at, getD-set-same, getD-set-other}
 use borrow.Author.Tests.{eq-eqb, ne-eqb}
+use borrow.Author.Count.{below-more}
 use Rattle.tree.specs.Numbers.{count}
 use Rattle.tree.specs.Table.{none, nodes, firstChild, nextSibling}
 use Rattle.tree.specs.Forest.{Forest, nil, node, treeOf, size, preorder, entry}
 use Rattle.tree.specs.WellFormed.{tableNumber}
 use Rattle.tree.specs.Operations.{numberFrom, renumbered}
 use Rattle.tree.specs.Steps.{OldNumbers, NewNumbers, renamed}
-use Rattle.tree.proofs.Counting.{is-cases, Below, all-left, all-right}
+use Rattle.tree.proofs.Counting.{Below, all-left, all-right}
 use Rattle.tree.proofs.Tests.{all-at}
 use Rattle.tree.proofs.Reading.{Agrees, size-preorder}
 use Rattle.tree.proofs.Linked.{Linked}
@@ -58,17 +59,12 @@ invert-next old new bound k O I inside =
     record {
       size = length-set new (getD old k 0) k ∙ I .size;
       within = omega arith;
-      inverse = λ j h.
-          ⊎-elim (λ s. subst (λ (x : ℕ). getD (set new (getD old k 0) k) (getD old x 0) 0 ≡ x) (sym (s .0))
-          (getD-set-same new (getD old k 0) k 0 (omega (arith, O .below k inside))))
-          (λ s.
-          getD-set-other new (getD old k 0) (getD old j 0) k 0 (λ p. s .0 (O .apart j k (omega arith) inside p))
-          ∙ I .inverse j (earlier h (s .0)))
-          (is-cases j k);
+      inverse = below-more (λ j. getD (set new (getD old k 0) k) (getD old j 0) 0 ≡ j) k
+          (λ j h.
+          getD-set-other new (getD old k 0) (getD old j 0) k 0 (λ p. let same = O .apart j k (omega arith) inside p in omega arith)
+          ∙ I .inverse j h)
+          (getD-set-same new (getD old k 0) k 0 (omega (arith, O .below k inside)));
     }
-  where
-    earlier : {j : ℕ} → j < k + 1 → (j ≡ k → ⊥) → j < k
-    earlier h d = omega arith
 
 pub invert-end : (old new : List ℕ) (bound k : ℕ) → Inverting old new bound k → length old ≤ k → NewNumbers old new
 invert-end old new bound k I h = record { inverse = λ j i. I .inverse j (omega arith) }
@@ -145,22 +141,16 @@ module _ (t old new : List ℕ) (accepted : tableNumber t ≡ 0) (o : old ≡ pr
           within = omega arith;
           child = λ j h.
               getD-set-other (set out (2 * k) c) (2 * k + 1) (2 * j) s none (λ p. omega arith)
-              ∙ ⊎-elim (λ q. subst (λ (x : ℕ). firstChild (set out (2 * k) c) x ≡ renamed new (firstChild t (getD old x 0))) (sym (q .0))
-              (getD-set-same out (2 * k) c none room₁ ∙ ec ∙ ap (renamed new) (first-read t accepted (getD old k 0) link-node)))
-              (λ q. getD-set-other out (2 * k) (2 * j) c none (λ p. q .0 (omega arith)) ∙ K .child j (earlier h (q .0)))
-              (is-cases j k);
-          sibling = λ j h.
-              ⊎-elim (λ q. subst (λ (x : ℕ). nextSibling (linked-row c s) x ≡ renamed new (nextSibling t (getD old x 0))) (sym (q .0))
+              ∙ below-more (λ j. firstChild (set out (2 * k) c) j ≡ renamed new (firstChild t (getD old j 0))) k
+              (λ j h. getD-set-other out (2 * k) (2 * j) c none (λ p. omega arith) ∙ K .child j h)
+              (getD-set-same out (2 * k) c none room₁ ∙ ec ∙ ap (renamed new) (first-read t accepted (getD old k 0) link-node)) j h;
+          sibling = below-more (λ j. nextSibling (linked-row c s) j ≡ renamed new (nextSibling t (getD old j 0))) k
+              (λ j h.
+              getD-set-other (set out (2 * k) c) (2 * k + 1) (2 * j + 1) s none (λ p. omega arith)
+              ∙ getD-set-other out (2 * k) (2 * j + 1) c none (λ p. omega arith) ∙ K .sibling j h)
               (getD-set-same (set out (2 * k) c) (2 * k + 1) s none (room₂ c) ∙ es
-              ∙ ap (renamed new) (second-read t accepted (getD old k 0) link-node)))
-              (λ q.
-              getD-set-other (set out (2 * k) c) (2 * k + 1) (2 * j + 1) s none (λ p. q .0 (omega arith))
-              ∙ getD-set-other out (2 * k) (2 * j + 1) c none (λ p. omega arith) ∙ K .sibling j (earlier h (q .0)))
-              (is-cases j k);
+              ∙ ap (renamed new) (second-read t accepted (getD old k 0) link-node));
         }
-      where
-        earlier : {j : ℕ} → j < k + 1 → (j ≡ k → ⊥) → j < k
-        earlier h d = omega arith
 
     pub link-row : nodes t ≤ length new → Row t old new out k
     link-row r =
