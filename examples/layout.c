@@ -1,5 +1,5 @@
 /*
- * Lays a tree out and prints each node's number, level and place. From the repository's root:
+ * Lays a tree out and prints each node's number, level and place, and then the neighbours as they are read. From the repository's root:
  *
  *     gcc -std=c11 -Wall -Wextra -Werror -Iinclude examples/layout.c target/staticlib/libexports.a -o layout
  */
@@ -23,6 +23,9 @@ int main(void)
     }
     for (int node = 0; node < nodes; node++) {
         printf("%d %d %d\n", node, levels[node], places[node]);
+    }
+    for (int pair = 0; pair < pairs; pair++) {
+        printf("%d beside %d\n", record[2 * pair], record[2 * pair + 1]);
     }
     return 0;
 }

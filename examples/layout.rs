@@ -1,4 +1,4 @@
-// Lays a tree out and prints each node's number, level and place. From the repository's root:
+// Lays a tree out and prints each node's number, level and place, and then the neighbours as they are read. From the repository's root:
 //
 //     rustc --edition 2021 -D warnings examples/layout.rs -C link-arg=target/staticlib/libexports.a -o layout
 
@@ -31,5 +31,8 @@ fn main() {
     assert_eq!(number, 0, "refused");
     for node in 0..usize::from(nodes) {
         println!("{node} {} {}", levels[node], places[node]);
+    }
+    for pair in record[..2 * usize::from(pairs)].chunks(2) {
+        println!("{} beside {}", pair[0], pair[1]);
     }
 }

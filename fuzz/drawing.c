@@ -2,6 +2,7 @@
    subtree's positions follow each other, and so do those of a level in tree order. */
 
 #include "paper.h"
+#include <string.h>
 
 void number_parents_first(const uint16_t *table, uint16_t *order)
 {
@@ -93,38 +94,20 @@ static void draw_family(size_t parent, int32_t separation)
     }
 }
 
-/* Levels and neighbours by a walk level by level. */
-static void walk_levels(const uint16_t *table, size_t nodes, struct drawing *drawing)
-{
-    uint16_t order[MOST_NODES] = {0};
-    size_t count = 1;
-    drawing->level[0] = 0;
-    for (size_t next = 0; next < count; next++) {
-        uint16_t below = (uint16_t)(drawing->level[order[next]] + 1);
-        for (uint16_t node = table[2 * order[next]]; node != NONE; node = table[2 * node + 1]) {
-            drawing->level[node] = below;
-            order[count++] = node;
-        }
-    }
-    drawing->level_count = drawing->level[order[nodes - 1]] + (size_t)1;
-    drawing->pairs = 0;
-    for (size_t next = 0; next < nodes; next++) {
-        int beside = next + 1 < nodes
-                     && drawing->level[order[next]] == drawing->level[order[next + 1]];
-        drawing->right[order[next]] = beside ? order[next + 1] : NONE;
-        drawing->pairs += beside;
-    }
-}
-
 void draw(const uint16_t *table, size_t nodes, int32_t separation, struct drawing *drawing)
 {
     size_t at[MOST_NODES];
+    uint16_t right_of[MOST_NODES]; /* by node: the right neighbour, or NONE */
     conflicts = widest = 0;
-    walk_levels(table, nodes, drawing);
+    walk_levels(table, nodes, &drawing->levels);
+    memset(right_of, 0xff, sizeof right_of);
+    for (size_t i = 0; i < 2 * drawing->levels.pairs; i += 2) {
+        right_of[drawing->levels.record[i]] = drawing->levels.record[i + 1];
+    }
     number_parents_first(table, node_at);
     for (size_t position = 0; position < nodes; position++) {
         at[node_at[position]] = position;
-        level[position] = drawing->level[node_at[position]];
+        level[position] = drawing->levels.of[node_at[position]];
         measured[position] = 0;
     }
     /* Step 1: each subtree on its own, so children before their parents. */
@@ -149,7 +132,7 @@ void draw(const uint16_t *table, size_t nodes, int32_t separation, struct drawin
             = place[position] > drawing->greatest ? place[position] : drawing->greatest;
         /* The pairs that step 3 measures are the neighbours. */
         uint16_t right = measured[position] == 0 ? NONE : node_at[measured[position]];
-        if (drawing->right[node] != right) {
+        if (right_of[node] != right) {
             __builtin_trap();
         }
     }

@@ -4,7 +4,7 @@
 #ifndef PAPER_H
 #define PAPER_H
 
-#include "../reference/c/inputs.h"
+#include "../reference/c/levels.h"
 
 /* The first of the conditions 1 to 5 that holds of a table, or 0. */
 unsigned table_number(const uint16_t *table, size_t len);
@@ -15,14 +15,11 @@ unsigned sheet_number(const uint8_t *file, size_t bytes, size_t table_len, size_
 /* The nodes of a well-formed table, parent first, then the children's subtrees left to right. */
 void number_parents_first(const uint16_t *table, uint16_t *order);
 
-/* By node number, but for the counts and the extremes. */
 struct drawing {
-    size_t level_count, pairs;
+    struct levels levels;
     int32_t least, greatest;
-    uint16_t level[MOST_NODES];
-    uint16_t right[MOST_NODES]; /* the right neighbour, or NONE */
-    int32_t place[MOST_NODES];
-    size_t conflicts, widest; /* how many, and the greatest k of one */
+    int32_t place[MOST_NODES]; /* by node number */
+    size_t conflicts, widest;  /* how many, and the greatest k of one */
 };
 
 /* Where each node of a well-formed table stands: steps 1 to 6. */

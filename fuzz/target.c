@@ -129,12 +129,6 @@ static void mirror_plainly(const uint16_t *table, size_t len, uint16_t *mirrored
     }
 }
 
-static void expect_words(const struct lent *lent, const uint16_t *words, size_t count)
-{
-    expect(memcmp(lent->start, words, 2 * count) == 0, "the words are those of the paper");
-    expect_written(lent, 2 * count);
-}
-
 static void expect_word(const struct lent *lent, size_t word)
 {
     expect(*(uint16_t *)lent->start == word, "a result field is that of the paper");
@@ -191,26 +185,17 @@ static void renumber(const struct input *input, const uint16_t *entries, size_t 
     expect_words(&map, old, number == 0 ? nodes : 0);
 }
 
-/* The record has each pair of neighbours once, and nothing else. */
-static void expect_neighbours(const uint16_t *record, struct drawing drawing)
-{
-    for (size_t pair = 0; pair < drawing.pairs; pair++) {
-        uint16_t left = record[2 * pair], right = record[2 * pair + 1];
-        expect(left < MOST_NODES && right != NONE && drawing.right[left] == right,
-               "a pair is one of neighbours, the left one first, and comes once");
-        drawing.right[left] = NONE;
-    }
-}
-
 /* What the paper says of places without naming them. */
 static void expect_promises(const uint16_t *entries, const int32_t *place, size_t nodes,
-                            int32_t separation, const struct drawing *drawing)
+                            int32_t separation, const struct levels *levels)
 {
     expect(place[0] == 0, "the root is at 0");
+    for (size_t i = 0; i < 2 * levels->pairs; i += 2) {
+        uint16_t left = levels->record[i], right = levels->record[i + 1];
+        expect(place[right] - place[left] >= separation, "neighbours keep the separation");
+    }
     for (size_t node = 0; node < nodes; node++) {
-        uint16_t right = drawing->right[node], first = entries[2 * node], last = first;
-        expect(right == NONE || place[right] - place[node] >= separation,
-               "neighbours keep the separation");
+        uint16_t first = entries[2 * node], last = first;
         while (last != NONE && entries[2 * last + 1] != NONE) {
             last = entries[2 * last + 1];
         }
@@ -244,25 +229,24 @@ static void layout(const struct input *input, const uint16_t *entries, size_t le
     expect_number(&table, number, wanted);
     if (number != 0) {
         n = 0;
-        drawing.level_count = drawing.pairs = 0;
+        drawing.levels.count = drawing.levels.pairs = 0;
         drawing.least = drawing.greatest = 0;
     } else {
         draw(entries, n, input->separation, &drawing);
-        drawn[0][digits(n)][digits(drawing.level_count)] = 1;
+        drawn[0][digits(n)][digits(drawing.levels.count)] = 1;
         drawn[1][digits(drawing.conflicts)][digits(drawing.widest)] = 1;
-        expect_promises(entries, places.start, n, input->separation, &drawing);
+        expect_promises(entries, places.start, n, input->separation, &drawing.levels);
     }
     expect(memcmp(places.start, drawing.place, 4 * n) == 0, "the places are those of the rule");
     expect_written(&places, 4 * n);
-    expect_words(&levels, drawing.level, n);
-    expect(drawing.pairs + drawing.level_count == n, "as many pairs as nodes less levels");
-    expect_neighbours(record.start, drawing);
-    expect_written(&record, 4 * drawing.pairs);
+    expect_words(&levels, drawing.levels.of, n);
+    expect(drawing.levels.pairs + drawing.levels.count == n, "as many pairs as nodes less levels");
+    expect_words(&record, drawing.levels.record, 2 * drawing.levels.pairs);
     expect_zero(&work, 64 * n);
     expect_written(&work, 64 * n);
     expect_word(&nodes, n);
-    expect_word(&level_count, drawing.level_count);
-    expect_word(&pairs, drawing.pairs);
+    expect_word(&level_count, drawing.levels.count);
+    expect_word(&pairs, drawing.levels.pairs);
     expect(*(int32_t *)least.start == drawing.least, "the least place");
     expect(*(int32_t *)greatest.start == drawing.greatest, "the greatest place");
 }
@@ -310,11 +294,11 @@ static int print_plainly(const uint8_t *file, size_t bytes, char *text)
     }
     uint16_t separation = get_word(file, 0, 3);
     draw(table, nodes, separation, &drawing);
-    int len = sprintf(text, "sheet %zu %zu %d %d %d\n", nodes, drawing.level_count, separation,
+    int len = sprintf(text, "sheet %zu %zu %d %d %d\n", nodes, drawing.levels.count, separation,
                       drawing.least, drawing.greatest);
     for (size_t node = 0; node < nodes; node++) {
         uint32_t tape = tapes[2 * node] + 65536 * (uint32_t)tapes[2 * node + 1];
-        len += sprintf(text + len, "%zu %d %d %u\n", node, drawing.level[node],
+        len += sprintf(text + len, "%zu %d %d %u\n", node, drawing.levels.of[node],
                        drawing.place[node], tape);
     }
     return len;

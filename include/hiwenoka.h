@@ -42,10 +42,11 @@ uint16_t hiwenoka_check_table(const uint16_t *table, size_t table_len, uint16_t 
 /*
  * Lays a tree out: 0 to 5; 6; 7 if places or levels has fewer than n entries or record fewer than
  * 2n; 8 if work has fewer than 16n. Writes each node's place to the first n entries of places and
- * its level to the first n of levels, by node number, and the pairs of neighbours, left node first
- * and in no fixed order, to the first 2 * pairs entries of record. The first 16n entries of work,
- * whatever they held, are 0 afterwards. Writes n to nodes, the count of levels to level_count, the
- * least and the greatest place to least and greatest, and the count of pairs to pairs.
+ * its level to the first n of levels, by node number, and the pairs of neighbours, left node first,
+ * to the first 2 * pairs entries of record: level by level from the top, left to right on each
+ * level. The first 16n entries of work, whatever they held, are 0 afterwards. Writes n to nodes, the
+ * count of levels to level_count, the least and the greatest place to least and greatest, and the
+ * count of pairs to pairs.
  */
 uint16_t hiwenoka_layout(const uint16_t *table, size_t table_len, uint16_t separation,
                          int32_t *places, size_t places_len,

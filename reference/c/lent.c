@@ -1,7 +1,6 @@
 #define _DEFAULT_SOURCE
 #include "lent.h"
 #include "random.h"
-#include <stdint.h>
 #include <stdio.h>
 #include <stdlib.h>
 #include <string.h>
@@ -130,4 +129,10 @@ void expect_zero(const struct lent *lent, size_t bytes)
     for (size_t i = 0; i < bytes; i++) {
         expect(now[i] == 0, "an entry or a field is 0");
     }
+}
+
+void expect_words(const struct lent *lent, const uint16_t *words, size_t count)
+{
+    expect_written(lent, 2 * count);
+    expect(memcmp(lent->start, words, 2 * count) == 0, "the words are those of the paper");
 }

@@ -4,6 +4,7 @@
 #define LENT_H
 
 #include <stddef.h>
+#include <stdint.h>
 
 enum placing {
     AT_END,   /* the slice ends at a page that cannot be accessed */
@@ -31,6 +32,9 @@ struct lent lend_output(size_t bytes);
 void expect_written(const struct lent *lent, size_t bytes);
 
 void expect_zero(const struct lent *lent, size_t bytes);
+
+/* The slice starts with these words, which were written; the others are as they were. */
+void expect_words(const struct lent *lent, const uint16_t *words, size_t count);
 
 /* Ends the program unless a condition holds. */
 void expect(int holds, const char *what);

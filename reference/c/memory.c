@@ -9,7 +9,7 @@
  */
 
 #include "hiwenoka.h"
-#include "inputs.h"
+#include "levels.h"
 #include "lent.h"
 #include "random.h"
 #include <stdio.h>
@@ -82,12 +82,19 @@ static void layout(const uint16_t *entries, size_t len, uint16_t separation,
     expect_field(&least, number);
     expect_field(&greatest, number);
     expect_field(&pairs, number);
-    size_t n = *(uint16_t *)nodes.start, pair_count = *(uint16_t *)pairs.start;
-    expect(number != 0 || n == len / 2, "n is half the length");
-    expect(pair_count + *(uint16_t *)level_count.start == n, "as many pairs as nodes less levels");
+    size_t n = *(uint16_t *)nodes.start;
+    static struct levels walked;
+    walked.count = walked.pairs = 0;
+    if (number == 0) {
+        expect(n == len / 2, "n is half the length");
+        walk_levels(entries, n, &walked);
+    }
+    expect(*(uint16_t *)level_count.start == walked.count, "the count of levels");
+    expect(*(uint16_t *)pairs.start == walked.pairs, "the count of pairs");
+    expect(walked.pairs + walked.count == n, "as many pairs as nodes less levels");
     expect_written(&places, 4 * n);
-    expect_written(&levels, 2 * n);
-    expect_written(&record, 4 * pair_count);
+    expect_words(&levels, walked.of, n);
+    expect_words(&record, walked.record, 2 * walked.pairs);
     expect_written(&work, 64 * n);
     expect_zero(&work, 64 * n);
 }

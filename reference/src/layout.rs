@@ -8,15 +8,15 @@ use crate::table::{children_of, over_start, parents_first, refusal, Children};
 /// The drawing of a subtree; its root alone is on the first level.
 type Drawing = Vec<Vec<(usize, i64)>>;
 
-/// A finished drawing with the root at 0, and the measured pairs, left node first.
-pub struct Drawn {
-    pub levels: Drawing,
-    pub record: Vec<(usize, usize)>,
+/// A finished drawing with the root at 0, and the pairs that the walk measured, left node first.
+struct Drawn {
+    levels: Drawing,
+    measured: Vec<(usize, usize)>,
 }
 
 /// Steps 1 to 6 for the tree with these children.
-pub fn draw(children: &Children, separation: i64) -> Drawn {
-    let mut record = Vec::new();
+fn draw(children: &Children, separation: i64) -> Drawn {
+    let mut measured = Vec::new();
     let mut drawings: Vec<Option<Drawing>> = vec![None; children.len()];
     // Step 1: each subtree on its own, so children before their parents.
     for node in parents_first(children).into_iter().rev() {
@@ -24,11 +24,11 @@ pub fn draw(children: &Children, separation: i64) -> Drawn {
             .iter()
             .map(|&child| drawings[child].take().expect("drawn before its parent"))
             .collect();
-        drawings[node] = Some(draw_family(node, subtrees, separation, &mut record));
+        drawings[node] = Some(draw_family(node, subtrees, separation, &mut measured));
     }
     Drawn {
         levels: drawings[0].take().expect("the root is drawn last"),
-        record,
+        measured,
     }
 }
 
@@ -38,14 +38,14 @@ fn draw_family(
     node: usize,
     subtrees: Vec<Drawing>,
     separation: i64,
-    record: &mut Vec<(usize, usize)>,
+    measured: &mut Vec<(usize, usize)>,
 ) -> Drawing {
     if subtrees.is_empty() {
         return vec![vec![(node, 0)]];
     }
     let mut joined: Vec<Drawing> = Vec::new();
     for subtree in subtrees {
-        join(&mut joined, subtree, separation, record);
+        join(&mut joined, subtree, separation, measured);
     }
     // Step 5.
     let (first, last) = (
@@ -68,7 +68,7 @@ fn join(
     joined: &mut Vec<Drawing>,
     mut subtree: Drawing,
     separation: i64,
-    record: &mut Vec<(usize, usize)>,
+    measured: &mut Vec<(usize, usize)>,
 ) {
     let j = joined.len();
     if j > 0 {
@@ -84,7 +84,7 @@ fn join(
         }
         let (left, left_place) = joined[i][level][joined[i][level].len() - 1];
         let (right, right_place) = subtree[level][0];
-        record.push((left, right));
+        measured.push((left, right));
         let s = separation - (right_place - left_place);
         if s > 0 {
             let k = j - i;
@@ -116,7 +116,7 @@ pub struct Slices<'a> {
     pub work: &'a [i32],
 }
 
-/// What a call of the layout must give. The pairs stand in the record in this model's order.
+/// What a call of the layout must give.
 #[derive(Debug, PartialEq, Eq)]
 pub struct LaidOut {
     pub number: u16,
@@ -131,20 +131,12 @@ pub struct LaidOut {
     pub work: Vec<i32>,
 }
 
-impl LaidOut {
-    /// Whether a record agrees with this one but for the order of its pairs.
-    pub fn agrees_with_record(&self, record: &[u16]) -> bool {
-        let written = 2 * usize::from(self.pairs);
-        record.len() == self.record.len()
-            && sorted_pairs(&record[..written]) == sorted_pairs(&self.record[..written])
-            && record[written..] == self.record[written..]
-    }
-}
-
-fn sorted_pairs(record: &[u16]) -> Vec<(u16, u16)> {
-    let mut pairs: Vec<(u16, u16)> = record.chunks_exact(2).map(|p| (p[0], p[1])).collect();
-    pairs.sort_unstable();
-    pairs
+/// The pairs of neighbours in reading order: level by level from the top, left to right on each.
+fn in_reading_order(levels: &Drawing) -> Vec<(usize, usize)> {
+    levels
+        .iter()
+        .flat_map(|row| row.windows(2).map(|pair| (pair[0].0, pair[1].0)))
+        .collect()
 }
 
 /// The whole operation.
@@ -196,18 +188,22 @@ fn accepted(table: &[u16], separation: u16, lent: &Slices) -> LaidOut {
             levels[node] = level as u16;
         }
     }
-    let record: Vec<u16> = drawn
-        .record
+    let pairs = in_reading_order(&drawn.levels);
+    let record: Vec<u16> = pairs
         .iter()
         .flat_map(|&(left, right)| [left as u16, right as u16])
         .collect();
+    let (mut measured, mut recorded) = (drawn.measured, pairs);
+    measured.sort_unstable();
+    recorded.sort_unstable();
+    assert_eq!(measured, recorded, "the record names what step 3 measures");
     LaidOut {
         number: 0,
         nodes: nodes as u16,
         level_count: drawn.levels.len() as u16,
         least: places.iter().copied().min().unwrap_or(0),
         greatest: places.iter().copied().max().unwrap_or(0),
-        pairs: drawn.record.len() as u16,
+        pairs: measured.len() as u16,
         places: over_start(lent.places, &places),
         levels: over_start(lent.levels, &levels),
         record: over_start(lent.record, &record),
@@ -258,24 +254,26 @@ mod tests {
             *places.iter().max().expect("there is a root")
         );
         assert_eq!(usize::from(laid.pairs), dots.len() - level_count);
-        assert_eq!(
-            sorted_pairs(&laid.record[..2 * usize::from(laid.pairs)]),
-            neighbours(&table)
-        );
+        assert_eq!(pairs_of(&laid), neighbours(&table));
         assert!(laid.work.iter().all(|&entry| entry == 0));
     }
 
+    /// The pairs of the record, in its order.
+    fn pairs_of(laid: &LaidOut) -> Vec<(u16, u16)> {
+        laid.record[..2 * usize::from(laid.pairs)]
+            .chunks_exact(2)
+            .map(|pair| (pair[0], pair[1]))
+            .collect()
+    }
+
+    /// The neighbours by the links alone, level by level from the top.
     fn neighbours(table: &[u16]) -> Vec<(u16, u16)> {
-        let levels = level_by_level(&children_of(table));
-        let mut pairs: Vec<(u16, u16)> = levels
-            .iter()
-            .flat_map(|level| {
-                level
-                    .windows(2)
-                    .map(|pair| (pair[0] as u16, pair[1] as u16))
-            })
-            .collect();
-        pairs.sort_unstable();
+        let mut pairs = Vec::new();
+        for level in level_by_level(&children_of(table)) {
+            for pair in level.windows(2) {
+                pairs.push((pair[0] as u16, pair[1] as u16));
+            }
+        }
         pairs
     }
 
@@ -319,7 +317,23 @@ mod tests {
             ],
         );
         let list = [0, 1, 2, 2, 2, 2, 2, 1, 1, 1, 2, 2, 2, 2, 2];
-        assert_eq!(lay_out(&shapes::table_of_levels(&list), 4).pairs, 12);
+        assert_eq!(
+            pairs_of(&lay_out(&shapes::table_of_levels(&list), 4)),
+            [
+                (1, 7),
+                (7, 8),
+                (8, 9),
+                (2, 3),
+                (3, 4),
+                (4, 5),
+                (5, 6),
+                (6, 10),
+                (10, 11),
+                (11, 12),
+                (12, 13),
+                (13, 14),
+            ]
+        );
     }
 
     #[test]
@@ -512,11 +526,11 @@ mod tests {
         assert_eq!(laid.work[48..], [7; 2]);
     }
 
-    /// Demand 3 and what follows from the steps: the record is the neighbours, they keep their
-    /// distance, a last child touches at D, and the width is bounded.
+    /// Demand 3 and what follows from the steps: the record is the neighbours in reading order, they
+    /// keep their distance, a last child touches at D, and the width is bounded.
     fn hold_promises(table: &[u16], separation: u16) {
         let laid = lay_out(table, separation);
-        let pairs = sorted_pairs(&laid.record[..2 * usize::from(laid.pairs)]);
+        let pairs = pairs_of(&laid);
         assert_eq!(pairs, neighbours(table));
         let place = |node: u16| laid.places[usize::from(node)];
         let distance = i32::from(separation);

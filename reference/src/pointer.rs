@@ -72,7 +72,8 @@ impl Pointers {
         }
     }
 
-    /// Writes places and levels by node number and, with `RECORD`, the measured pairs.
+    /// Writes places and levels by node number and, with `RECORD`, the pairs in the order in which
+    /// the walk measures them.
     pub fn lay_out<const RECORD: bool>(
         &mut self,
         table: &[u16],
@@ -374,7 +375,17 @@ mod tests {
         assert_eq!(literal.number, 0);
         assert_eq!(places, literal.places, "D = {separation}, {table:?}");
         assert_eq!(levels, literal.levels);
-        assert!(literal.agrees_with_record(&record));
+        // Sorted by level and place, its pairs are the record.
+        let place_of = |node: u16| (levels[usize::from(node)], places[usize::from(node)]);
+        let mut pairs: Vec<[u16; 2]> = record[..2 * usize::from(extent.pairs)]
+            .chunks_exact(2)
+            .map(|pair| [pair[0], pair[1]])
+            .collect();
+        pairs.sort_unstable_by_key(|pair| place_of(pair[0]));
+        assert_eq!(
+            pairs.concat(),
+            literal.record[..2 * usize::from(literal.pairs)]
+        );
         assert_eq!(
             extent,
             Extent {

@@ -6,8 +6,8 @@ use std::fs::File;
 use std::path::{Path, PathBuf};
 use std::process::{Command, Stdio};
 
-/// What a layout's example prints: number, level and place of each node.
-const PLACES: &str = "0 0 0\n1 1 -1\n2 2 -2\n3 2 1\n4 1 2\n";
+/// What a layout's example prints: number, level and place of each node, and the neighbours.
+const LAID_OUT: &str = "0 0 0\n1 1 -1\n2 2 -2\n3 2 1\n4 1 2\n1 beside 4\n2 beside 3\n";
 
 fn root() -> PathBuf {
     Path::new(env!("CARGO_MANIFEST_DIR")).join("..")
@@ -61,14 +61,14 @@ fn lists(mut program: Command) {
 fn the_programs_in_c_build_and_print() {
     lists(built("examples/list.c", "gcc "));
     let printed = printed_by(&mut built("examples/layout.c", "gcc "));
-    assert_eq!(printed, PLACES);
+    assert_eq!(printed, LAID_OUT);
 }
 
 #[test]
 fn the_programs_in_rust_build_and_print() {
     lists(built("examples/list.rs", "rustc "));
     let printed = printed_by(&mut built("examples/layout.rs", "rustc "));
-    assert_eq!(printed, PLACES);
+    assert_eq!(printed, LAID_OUT);
 }
 
 #[test]

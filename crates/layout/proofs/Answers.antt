@@ -15,15 +15,15 @@ use Rattle.refusal.proofs.After.{granted-accepted, granted-refused, after-accep
 use Rattle.refusal.proofs.Laws.{first-refused, first-passed, first-none, none-first}
 use Rattle.tree.specs.Numbers.{upTo}
 use Rattle.tree.specs.Table.{nodes}
-use Rattle.tree.specs.Levels.{Pair, level, neighbours, levelCount}
+use Rattle.tree.specs.Levels.{level, neighbours, levelCount}
 use Rattle.tree.specs.WellFormed.{tableConditions, tableNumber}
 use Rattle.refusal.proofs.Truth.{or-false-left, or-false-right, or-false, or-true, and-left, and-right}
-use Rattle.rule.specs.Record.{SamePairs, flat}
+use Rattle.rule.specs.Record.{flat}
 use Rattle.rule.specs.Result.{Slices, badSeparation, shortResults, shortWork, layoutNumber, placesOf, levelsOf, place, Layout}
+use Rattle.rule.proofs.Flat.{length-flat}
 use Rattle.rule.proofs.Promises.{neighbours-count}
 use Rattle.layout.specs.Operation.{slices, answer}
 use Rattle.second_walk.specs.SecondWalk.{Settled}
-use Rattle.second_walk.proofs.Recorded.{length-flat}
 use Rattle.second_walk.proofs.EntryForEach.{length-upTo}
 pub use Rattle.second_walk.proofs.Extreme.{least-small, greatest-small}
 
@@ -125,9 +125,6 @@ module _ (t : List ℕ) (D : ℕ) (s : Slices) where
 
 -- ---- the answer
 
-same-pairs : (ps : List Pair) → SamePairs ps ps
-same-pairs ps = record { many = refl; each = λ a b. refl }
-
 -- there is a place and a level for each node
 pub length-places : (D : ℕ) (t : List ℕ) → length (placesOf D t) ≡ nodes t
 unfolding placesOf
@@ -150,7 +147,7 @@ module _ (t : List ℕ) (D : ℕ) (s : Slices) where
         pairs = rw granted-refused;
         places = rw after-refused;
         levels = rw after-refused;
-        theRecord = (neighbours t, same-pairs (neighbours t), rw after-refused);
+        theRecord = rw after-refused;
         work = rw after-refused;
       }
 
@@ -184,10 +181,6 @@ module _ (t : List ℕ) (D : ℕ) (s : Slices) where
           pairs = rw granted-accepted (S .pairs);
           places = rw (S .places, after-accepted, overwrite-split (nodes t) (placesOf D t) (s .places) (length-places D t));
           levels = rw (S .levels, after-accepted, overwrite-split (nodes t) (levelsOf t) (s .levels) (length-levels t));
-          theRecord = (
-            neighbours t,
-            same-pairs (neighbours t),
-            rw (S .measured, after-accepted) (overwrite-front (2 * nodes t) (flat (neighbours t)) (s .theRecord) room (T .measured)),
-          );
+          theRecord = rw (S .measured, after-accepted) (overwrite-front (2 * nodes t) (flat (neighbours t)) (s .theRecord) room (T .measured));
           work = f ∙ work-after ws′ (S .rest ∙ e);
         }

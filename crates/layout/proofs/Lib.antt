@@ -4,4 +4,5 @@ pub mod Redrawn
 pub mod Standing
 pub mod Cleared
 pub mod Answers
+pub mod ReadingOrder
 pub mod Returned

@@ -1,12 +1,14 @@
 -- What an accepted call of the layout returns: the record, the order and the distance of neighbours, the extremes, and equal shapes in one
 -- call or in two of one separation. Assumes nothing.
-use mathlib.Core.Path.{_≡_, sym, ap, _∙_, subst₂}
+use mathlib.Core.Path.{_≡_, sym, ap, ap₂, _∙_, subst, subst₂}
+use mathlib.Core.Logic.{inl, inr, ⊎-elim}
 use mathlib.Core.Bool.{true}
 use mathlib.Core.List.{List, [], _∷_, _++_}
-use Prim.Native.Nat.{ℕ, _+_, _≤_, _<_}
+use Prim.Native.Nat.{ℕ, _+_, _*_, _<_}
 use native.Mathlib.Omega.{arith}
 use lib.IntN.{ℤ, pos, _+ℤ_}
 use lib.ListN.{length, getD, drop, length-map, List·getD-append}
+use lib.Seq.{drop-append-seam}
 use lib.Signed.{_≤ℤ_}
 use Rattle.refusal.specs.After.{granted, overwrite, after}
 use Rattle.refusal.proofs.After.{granted-accepted, after-accepted}
@@ -16,14 +18,17 @@ use Rattle.tree.specs.Forest.{Forest, nil, node, treeOf, preorder}
 use Rattle.tree.specs.Levels.{Pair, beside, levels, level, levelCount, sideBySide, neighbours}
 use Rattle.tree.specs.Shape.{corresponding, correspondingUnder, sameOrderedShape, under}
 use Rattle.tree.specs.WellFormed.{tableNumber}
-use Rattle.tree.proofs.Counting.{All, Below, all-append, all-left, all-right}
+use Rattle.tree.proofs.Counting.{All, Below, below-or-not, all-append, all-left, all-right, all-both}
+use Rattle.tree.proofs.Tests.{all-at}
 use Rattle.tree.proofs.Parts.{part-below}
 use Rattle.tree.proofs.Stands.{accepted-numbers}
-use Rattle.rule.specs.Record.{pairCount, flat}
+use Rattle.rule.specs.Record.{flat}
 use Rattle.rule.specs.Result.{Slices, Answer, Layout, layoutNumber, place, placesOf, levelsOf, leastOf, greatestOf}
-use Rattle.rule.proofs.Promises.{neighbours-once, neighbours-count, neighbours-apart, part-at, shapes-equal}
+use Rattle.rule.proofs.Flat.{length-flat, pairAt, flat-at}
+use Rattle.rule.proofs.Promises.{neighbours-count, neighbours-apart, part-at, shapes-equal}
 use Rattle.rule.proofs.Extremes.{least-bounds, greatest-bounds, least-met, greatest-met}
 use Rattle.layout.proofs.Answers.{taken}
+use Rattle.layout.proofs.ReadingOrder.{ReadBefore, not-itself, neighbours-read}
 use Rattle.second_walk.proofs.EntryForEach.{map-upTo, length-upTo}
 
 -- ---- nodes of lists that are read off a tree are below n
@@ -67,10 +72,6 @@ below-under t e v h =
     let p = part-at t e v h in
     all-left (λ x. x < nodes t) (preorder (under t v)) (preorder (p .0)) (part-below (nodes t) (p .1) (accepted-numbers t e .below) .1)
 
-both : {A : Type 0} (P Q R : A → Type 0) → ((x : A) → P x → Q x → R x) → (l : List A) → All P l → All Q l → All R l
-both P Q R h [] a b = tt
-both P Q R h (x ∷ l) a b = (h x (a .0) (b .0), both P Q R h l (a .1) (b .1))
-
 -- ---- one call
 
 module _ (t : List ℕ) (D : ℕ) (s : Slices) (a : Answer) (u : Slices) (L : Layout t D s a u) (granted-call : a .number ≡ 0) where
@@ -108,27 +109,66 @@ module _ (t : List ℕ) (D : ℕ) (s : Slices) (a : Answer) (u : Slices) (L : La
       ∙ List·getD-append (levelsOf t) (drop (length (levelsOf t)) (s .levels)) 0 v (omega (arith, h, length-map (upTo (nodes t)) (level t), length-upTo (nodes t)))
       ∙ map-upTo (level t) 0 (nodes t) v h
 
-  -- The record names two nodes, the left one first, exactly when they are side by side on a level, and each such pair once.
-  pub record-returned : (ps : List Pair) × (u .theRecord ≡ flat ps ++ drop (length (flat ps)) (s .theRecord)) × (length ps ≡ a .pairs)
-      × ((x y : ℕ) → pairCount x y ps ≡ pairCount x y (neighbours t)) × ((x y : ℕ) → pairCount x y ps ≤ 1)
+  pair-count : a .pairs ≡ length (neighbours t)
+  pair-count = field (length (neighbours t)) 0 (a .pairs) (L .pairs)
+
+  recorded-length : length (flat (neighbours t)) ≡ 2 * a .pairs
+  recorded-length = length-flat (neighbours t) ∙ ap (λ (k : ℕ). 2 * k) (sym pair-count)
+
+  -- The record is the neighbours, level by level from the top and left to right on each level; entries past the pairs are untouched.
+  pub record-returned : u .theRecord ≡ flat (neighbours t) ++ drop (2 * a .pairs) (s .theRecord)
   record-returned =
-      let r = L .theRecord in (
-        r .0,
-        written (flat (r .0)) (s .theRecord) (u .theRecord) (r .2),
-        r .1 .many ∙ sym (field (length (neighbours t)) 0 (a .pairs) (L .pairs)),
-        r .1 .each,
-        (λ x y. omega (arith, r .1 .each x y, neighbours-once t accepted x y)),
-      )
+      written (flat (neighbours t)) (s .theRecord) (u .theRecord) (L .theRecord)
+      ∙ ap (λ (k : ℕ). flat (neighbours t) ++ drop k (s .theRecord)) recorded-length
+
+  pub rest-returned : drop (2 * a .pairs) (u .theRecord) ≡ drop (2 * a .pairs) (s .theRecord)
+  rest-returned = ap₂ drop (sym recorded-length) record-returned ∙ drop-append-seam (flat (neighbours t)) (drop (2 * a .pairs) (s .theRecord))
+
+  -- the pair at each index
+  abbrev pub pairOf : ℕ → Pair
+  pairOf i = pairAt (u .theRecord) i
+
+  pub pair-returned : (d : Pair) (i : ℕ) → i < a .pairs → pairOf i ≡ getD (neighbours t) i d
+  pair-returned d i h =
+      ap (λ (l : List ℕ). pairAt l i) record-returned ∙ flat-at (neighbours t) (drop (2 * a .pairs) (s .theRecord)) d i (omega (arith, pair-count))
+
+  -- of two pairs the earlier one stands on a higher level, or on the same level and at least the separation further left
+  pub reading-order-returned : (i j : ℕ) → i < j → j < a .pairs → ReadBefore levelOf placeOf D (pairOf i) (pairOf j)
+  reading-order-returned i j h k =
+      subst₂ (ReadBefore levelOf placeOf D) (sym (pair-returned (0, 0) i (omega arith))) (sym (pair-returned (0, 0) j k))
+      (told (getD (neighbours t) i (0, 0)) (getD (neighbours t) j (0, 0)) (inside i (omega arith)) (inside j k)
+      (neighbours-read D t accepted (0, 0) i j h (omega (arith, pair-count))))
+    where
+      inside : (i : ℕ) → i < a .pairs → getD (neighbours t) i (0, 0) .0 < nodes t
+      inside i h = all-at (λ p. (p .0 < nodes t) × (p .1 < nodes t)) (neighbours t) (0, 0) (below-neighbours t accepted) i (omega (arith, pair-count)) .0
+
+      told : (p q : Pair) → p .0 < nodes t → q .0 < nodes t → ReadBefore (level t) (place D t) D p q → ReadBefore levelOf placeOf D p q
+      told p q h k (inl above) = inl (omega (arith, level-returned (p .0) h, level-returned (q .0) k))
+      told p q h k (inr beside) =
+          inr (
+            level-returned (p .0) h ∙ beside .0 ∙ sym (level-returned (q .0) k),
+            subst₂ (λ (x y : ℤ). (x +ℤ pos D) ≤ℤ y) (sym (place-returned (p .0) h)) (sym (place-returned (q .0) k)) (beside .1),
+          )
+
+  -- each pair once
+  pub once-returned : (i j : ℕ) → i < a .pairs → j < a .pairs → pairOf i ≡ pairOf j → i ≡ j
+  once-returned i j h k e =
+      ⊎-elim (λ m. absurd (apart-from i j (m .0) k e)) (λ m. ⊎-elim (λ n. absurd (apart-from j i (n .0) h (sym e))) (λ n. omega arith) (below-or-not j i)) (below-or-not i j)
+    where
+      apart-from : (i j : ℕ) → i < j → j < a .pairs → pairOf i ≡ pairOf j → ⊥
+      apart-from i j m k e =
+          not-itself levelOf placeOf D (taken t D s number-0 .some) (pairOf j)
+          (subst (λ (p : Pair). ReadBefore levelOf placeOf D p (pairOf j)) e (reading-order-returned i j m k))
 
   -- pairs = nodes - levels
   pub pairs-returned : a .pairs + a .levels ≡ a .nodes
   pairs-returned =
-      omega (arith, field (length (neighbours t)) 0 (a .pairs) (L .pairs), field (levelCount t) 0 (a .levels) (L .levelCount), field (nodes t) 0 (a .nodes) (L .nodes), neighbours-count t accepted)
+      omega (arith, pair-count, field (levelCount t) 0 (a .levels) (L .levelCount), field (nodes t) 0 (a .nodes) (L .nodes), neighbours-count t accepted)
 
   -- neighbours stand in tree order, at least the separation apart
   pub apart-returned : All (λ p. (placeOf (p .0) +ℤ pos D) ≤ℤ (placeOf (p .1))) (neighbours t)
   apart-returned =
-      both (λ p. (p .0 < nodes t) × (p .1 < nodes t)) (λ p. (place D t (p .0) +ℤ pos D) ≤ℤ (place D t (p .1))) (λ p. (placeOf (p .0) +ℤ pos D) ≤ℤ (placeOf (p .1)))
+      all-both (λ p. (p .0 < nodes t) × (p .1 < nodes t)) (λ p. (place D t (p .0) +ℤ pos D) ≤ℤ (place D t (p .1))) (λ p. (placeOf (p .0) +ℤ pos D) ≤ℤ (placeOf (p .1)))
       (λ p b h. subst₂ (λ (x y : ℤ). (x +ℤ pos D) ≤ℤ y) (sym (place-returned (p .0) (b .0))) (sym (place-returned (p .1) (b .1))) h) (neighbours t)
       (below-neighbours t accepted) (neighbours-apart D t accepted)
 
@@ -173,10 +213,10 @@ module _ (D : ℕ) (t : List ℕ) (s : Slices) (a : Answer) (u : Slices) (L : La
       record {
         shift = E .shift;
         depth = E .depth;
-        shifted = both (λ p. (p .0 < nodes t) × (p .1 < nodes t′)) _ _
+        shifted = all-both (λ p. (p .0 < nodes t) × (p .1 < nodes t′)) _ _
             (λ p b h. place-returned t′ D s′ a′ u′ L′ granted-call′ (p .1) (b .1) ∙ h ∙ ap (λ (x : ℤ). x +ℤ E .shift) (sym (place-returned t D s a u L granted-call (p .0) (b .0))))
             ((v, w) ∷ corresponding (under t v) (under t′ w)) inside (E .places);
-        deeper = both (λ p. (p .0 < nodes t) × (p .1 < nodes t′)) _ _
+        deeper = all-both (λ p. (p .0 < nodes t) × (p .1 < nodes t′)) _ _
             (λ p b h. ap pos (level-returned t′ D s′ a′ u′ L′ granted-call′ (p .1) (b .1)) ∙ h ∙ ap (λ (x : ℕ). pos x +ℤ E .depth) (sym (level-returned t D s a u L granted-call (p .0) (b .0))))
             ((v, w) ∷ corresponding (under t v) (under t′ w)) inside (E .levels);
       }

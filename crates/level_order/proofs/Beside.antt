@@ -140,7 +140,7 @@ module _ (t : List ℕ) (accepted : tableNumber t ≡ 0) where
       (λ h. omega (arith, count-levels v (treeOf t), count-outside (nodes t) (preorder (treeOf t)) (accepted-numbers t accepted .below) v (h .0)))
       (below-or-not v (nodes t))
 
-  accepted-leveled : Leveled (level t) 0 (levels (treeOf t))
+  pub accepted-leveled : Leveled (level t) 0 (levels (treeOf t))
   unfolding level
   accepted-leveled = leveled (level t) 0 (levels (treeOf t)) (λ v h. omega arith) once
 

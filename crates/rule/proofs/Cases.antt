@@ -1,81 +1,57 @@
--- The sheets P1 to P12: for each its table and separation, and the whole of what the written rule gives for it, checked by one computation.
--- Assumes nothing.
+-- The sheets P1 to P12: for each its table and separation, and the whole of what a layout gives for it, every slice entry for entry, checked
+-- by one computation. Assumes nothing.
 use mathlib.Core.Path.{_≡_, refl}
 use mathlib.Core.List.{List, [], _∷_, _++_, map}
 use Prim.Native.Nat.{ℕ, zero, suc, _+_, _*_}
 use lib.IntN.{ℤ, pos, negℤ}
-use lib.ListN.{length, replicate}
-use Rattle.tree.specs.Table
-use Rattle.tree.specs.Levels
+use lib.ListN.{replicate}
 use Rattle.tree.specs.Table.{none, nodes}
 use Rattle.tree.specs.Forest.{forest, treeOf}
-use Rattle.tree.specs.Levels.{Pair, level, levelCount, neighbours}
+use Rattle.tree.specs.Levels.{level, levelCount, neighbours}
 use Rattle.tree.specs.WellFormed.{badLength, badEntry, rootHasSibling, namedTwice, notReached, tableConditions}
-use Rattle.refusal.specs.After.{granted}
-use Rattle.rule.specs.Rule.{drawn, recorded}
-use Rattle.rule.specs.Result.{place, placesOf, levelsOf, leastOf, greatestOf, Slices, badSeparation, shortResults, shortWork, layoutNumber}
+use Rattle.refusal.specs.After.{overwrite, after}
+use Rattle.rule.specs.Rule.{drawn}
+use Rattle.rule.specs.Result.{place, placesOf, levelsOf, Slices, Answer, Layout, badSeparation, shortResults, shortWork, layoutNumber}
+use Rattle.rule.proofs.Fixed.{answered, returned, fixed}
 
 pub record Sheet : Type 0 where
   pub table : List ℕ
   pub separation : ℕ
 
--- what a layout gives, but for the working slice: the neighbours in level order stand for the record
+-- what a call gives: its answer, and the slices afterwards
 pub record Outcome : Type 0 where
-  pub number : ℕ
-  pub nodes : ℕ
-  pub levelCount : ℕ
-  pub least : ℤ
-  pub greatest : ℤ
-  pub pairs : ℕ
-  pub places : List ℤ
-  pub levels : List ℕ
-  pub neighbours : List Pair
+  pub answer : Answer
+  pub slices : Slices
 
--- slices that are just long enough
-enough : ℕ → Slices
-enough n = record { places = replicate n (pos 0); levels = replicate n 0; theRecord = replicate (2 * n) 0; work = replicate (16 * n) (pos 0) }
-
-listed : {A : Type 0} → ℕ → List A → List A
-listed zero l = l
-listed (suc k) l = []
+-- slices that are just long enough for n nodes, with 9 in every entry
+pub lent : ℕ → Slices
+lent n = record { places = replicate n (pos 9); levels = replicate n 9; theRecord = replicate (2 * n) 9; work = replicate (16 * n) (pos 9) }
 
 pub outcome : Sheet → Outcome
-unfolding listed
+unfolding lent
 outcome s =
-    let t = s .table in
-    let D = s .separation in
-    let k = layoutNumber t D (enough (Table.nodes t)) in
-    record {
-      number = k;
-      nodes = granted k (Table.nodes t) 0;
-      levelCount = granted k (Levels.levelCount t) 0;
-      least = granted k (leastOf (placesOf D t)) (pos 0);
-      greatest = granted k (greatestOf (placesOf D t)) (pos 0);
-      pairs = granted k (length (recorded D t)) 0;
-      places = listed k (placesOf D t);
-      levels = listed k (levelsOf t);
-      neighbours = listed k (Levels.neighbours t);
-    }
+    let given = lent (nodes (s .table)) in
+    record { answer = answered (s .table) (s .separation) given; slices = returned (s .table) (s .separation) given }
 
 sheet : List ℕ → ℕ → Sheet
 sheet t D = record { table = t; separation = D }
 
-refused : ℕ → Outcome
-refused k =
-    record { number = k; nodes = 0; levelCount = 0; least = pos 0; greatest = pos 0; pairs = 0; places = []; levels = []; neighbours = [] }
+refused : ℕ → ℕ → Outcome
+unfolding lent
+refused k n =
+    record { answer = record { number = k; nodes = 0; levels = 0; least = pos 0; greatest = pos 0; pairs = 0 }; slices = lent n }
 
-drawing : ℕ → ℕ → ℤ → ℤ → List ℤ → List ℕ → List Pair → Outcome
-drawing n levels least greatest places nodeLevels neighbours =
+-- the entries of the record past its pairs, two for each level, are as they were
+drawing : ℕ → ℕ → ℤ → ℤ → ℕ → List ℤ → List ℕ → List ℕ → Outcome
+drawing n levels least greatest pairs places nodeLevels measured =
     record {
-      number = 0;
-      nodes = n;
-      levelCount = levels;
-      least = least;
-      greatest = greatest;
-      pairs = length neighbours;
-      places = places;
-      levels = nodeLevels;
-      neighbours = neighbours;
+      answer = record { number = 0; nodes = n; levels = levels; least = least; greatest = greatest; pairs = pairs };
+      slices = record {
+        places = places;
+        levels = nodeLevels;
+        theRecord = measured ++ replicate (2 * levels) 9;
+        work = replicate (16 * n) (pos 0);
+      };
     }
 
 -- a leaf with a further sibling, and a last leaf
@@ -113,45 +89,52 @@ sheets =
     ∷ sheet (none ∷ none ∷ []) 0
     ∷ []
 
--- what each gives; in P1 to P7 places, levels and neighbours are written out
+-- what each gives; in P1 to P7 places, levels and the record are written out
 pub expected : List Outcome
 unfolding drawing refused minus
 expected =
-    drawing 1 1 (pos 0) (pos 0)
+    drawing 1 1 (pos 0) (pos 0) 0
     (pos 0 ∷ [])
     (0 ∷ [])
-    ([])
-    ∷ drawing 3 3 (pos 0) (pos 0)
+    []
+    ∷ drawing 3 3 (pos 0) (pos 0) 0
     (pos 0 ∷ pos 0 ∷ pos 0 ∷ [])
     (0 ∷ 1 ∷ 2 ∷ [])
-    ([])
-    ∷ drawing 3 2 (minus 5) (pos 5)
+    []
+    ∷ drawing 3 2 (minus 5) (pos 5) 1
     (pos 0 ∷ minus 5 ∷ pos 5 ∷ [])
     (0 ∷ 1 ∷ 1 ∷ [])
-    ((1, 2) ∷ [])
-    ∷ drawing 3 2 (minus 1) (pos 2)
+    (1 ∷ 2 ∷ [])
+    ∷ drawing 3 2 (minus 1) (pos 2) 1
     (pos 0 ∷ minus 1 ∷ pos 2 ∷ [])
     (0 ∷ 1 ∷ 1 ∷ [])
-    ((1, 2) ∷ [])
-    ∷ drawing 4 2 (minus 1) (pos 1)
+    (1 ∷ 2 ∷ [])
+    ∷ drawing 4 2 (minus 1) (pos 1) 2
     (pos 0 ∷ minus 1 ∷ pos 0 ∷ pos 1 ∷ [])
     (0 ∷ 1 ∷ 1 ∷ 1 ∷ [])
-    ((1, 2) ∷ (2, 3) ∷ [])
-    ∷ drawing 15 3 (minus 18) (pos 18)
+    (1 ∷ 2 ∷ 2 ∷ 3 ∷ [])
+    ∷ drawing 15 3 (minus 18) (pos 18) 12
     (pos 0 ∷ minus 10 ∷ minus 18 ∷ minus 14 ∷ minus 10 ∷ minus 6 ∷ minus 2 ∷ minus 4 ∷ pos 2 ∷ pos 10 ∷ pos 2 ∷ pos 6 ∷ pos 10 ∷ pos 14 ∷ pos 18 ∷ [])
     (0 ∷ 1 ∷ 2 ∷ 2 ∷ 2 ∷ 2 ∷ 2 ∷ 1 ∷ 1 ∷ 1 ∷ 2 ∷ 2 ∷ 2 ∷ 2 ∷ 2 ∷ [])
-    ((1, 7) ∷ (7, 8) ∷ (8, 9) ∷ (2, 3) ∷ (3, 4) ∷ (4, 5) ∷ (5, 6) ∷ (6, 10) ∷ (10, 11) ∷ (11, 12) ∷ (12, 13) ∷ (13, 14) ∷ [])
-    ∷ drawing 23 4 (minus 12) (pos 10)
+    (1 ∷ 7 ∷ 7 ∷ 8 ∷ 8 ∷ 9 ∷ 2 ∷ 3 ∷ 3 ∷ 4 ∷ 4 ∷ 5 ∷ 5 ∷ 6 ∷ 6 ∷ 10 ∷ 10 ∷ 11 ∷ 11 ∷ 12 ∷ 12 ∷ 13 ∷ 13 ∷ 14 ∷ [])
+    ∷ drawing 23 4 (minus 12) (pos 10) 19
     (pos 0 ∷ minus 6 ∷ minus 6 ∷ minus 12 ∷ minus 10 ∷ minus 8 ∷ minus 6 ∷ minus 4 ∷ minus 2 ∷ pos 0 ∷ minus 1 ∷ minus 3 ∷ minus 1 ∷ pos 1 ∷ pos 6 ∷ pos 4 ∷ pos 6 ∷ pos 2 ∷ pos 4 ∷ pos 6 ∷ pos 8 ∷ pos 10 ∷ pos 8 ∷ [])
     (0 ∷ 1 ∷ 2 ∷ 3 ∷ 3 ∷ 3 ∷ 3 ∷ 3 ∷ 3 ∷ 3 ∷ 1 ∷ 2 ∷ 2 ∷ 2 ∷ 1 ∷ 2 ∷ 2 ∷ 3 ∷ 3 ∷ 3 ∷ 3 ∷ 3 ∷ 2 ∷ [])
-    ((1, 10) ∷ (10, 14) ∷ (2, 11) ∷ (11, 12) ∷ (12, 13) ∷ (13, 15) ∷ (15, 16) ∷ (16, 22) ∷ (3, 4) ∷ (4, 5) ∷ (5, 6) ∷ (6, 7) ∷ (7, 8) ∷ (8, 9) ∷ (9, 17) ∷ (17, 18) ∷ (18, 19) ∷ (19, 20) ∷ (20, 21) ∷ [])
-    ∷ refused 1
-    ∷ refused 3
-    ∷ refused 4
-    ∷ refused 5
-    ∷ refused 6
+    (1 ∷ 10 ∷ 10 ∷ 14 ∷ 2 ∷ 11 ∷ 11 ∷ 12 ∷ 12 ∷ 13 ∷ 13 ∷ 15 ∷ 15 ∷ 16 ∷ 16 ∷ 22 ∷ 3 ∷ 4 ∷ 4 ∷ 5 ∷ 5 ∷ 6 ∷ 6 ∷ 7 ∷ 7 ∷ 8 ∷ 8 ∷ 9 ∷ 9 ∷ 17 ∷ 17 ∷ 18 ∷ 18 ∷ 19 ∷ 19 ∷ 20 ∷ 20 ∷ 21 ∷ [])
+    ∷ refused 1 0
+    ∷ refused 3 2
+    ∷ refused 4 1
+    ∷ refused 5 2
+    ∷ refused 6 1
     ∷ []
 
 pub checked : map outcome sheets ≡ expected
-unfolding outcome sheets expected drawing refused minus enough leaves inner outer sheet listed forest treeOf level levelCount neighbours badLength badEntry rootHasSibling namedTwice notReached tableConditions drawn recorded place placesOf levelsOf badSeparation shortResults shortWork layoutNumber
+unfolding outcome sheets expected drawing refused minus lent leaves inner outer sheet forest treeOf level levelCount neighbours badLength badEntry rootHasSibling namedTwice notReached tableConditions drawn place placesOf levelsOf badSeparation shortResults shortWork layoutNumber overwrite after
 checked = refl
+
+-- whatever meets the layout's contract gives that outcome
+pub called : (s : Sheet) (a : Answer) (u : Slices) → Layout (s .table) (s .separation) (lent (nodes (s .table))) a u → record { answer = a; slices = u } ≡ outcome s
+unfolding outcome
+called s a u L =
+    let f = fixed (s .table) (s .separation) (lent (nodes (s .table))) a u L in
+    λ i. record { answer = f .0 i; slices = f .1 i }

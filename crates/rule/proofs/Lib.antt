@@ -4,6 +4,7 @@ pub mod Signed
 pub mod Names
 pub mod Pairs
 pub mod PairCounts
+pub mod Flat
 pub mod Moving
 pub mod Shares
 pub mod LevelEnds
@@ -20,4 +21,5 @@ pub mod Promises
 pub mod Tight
 pub mod Extremes
 pub mod AtOnce
+pub mod Fixed
 pub mod Cases

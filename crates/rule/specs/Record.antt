@@ -1,4 +1,5 @@
--- Lists of pairs of nodes: how often a pair occurs, and two lists that differ in their order alone.
+-- Lists of pairs of nodes: their numbers in a row, as the record holds them; how often a pair occurs; two lists that differ in their order
+-- alone.
 use Prim.Native.Nat.{ℕ, _+_}
 use mathlib.Core.Path.{_≡_}
 use mathlib.Core.Bool.{cond, _&&_}
@@ -6,6 +7,11 @@ use mathlib.Core.List.{List, [], _∷_}
 use lib.Dec.{eqb}
 use lib.ListN.{length}
 use Rattle.tree.specs.Levels.{Pair}
+
+-- the numbers of a list of pairs in a row, two for each pair
+abbrev pub flat : List Pair → List ℕ
+flat [] = []
+flat (p ∷ ps) = p .0 ∷ p .1 ∷ flat ps
 
 -- 1 where the pair is (a, b), else 0
 abbrev pub isPair : ℕ → ℕ → Pair → ℕ
@@ -20,8 +26,3 @@ pairCount a b (p ∷ ps) = isPair a b p + pairCount a b ps
 pub record SamePairs (ps qs : List Pair) : Type 0 where
   pub many : length ps ≡ length qs
   pub each : (a b : ℕ) → pairCount a b ps ≡ pairCount a b qs
-
--- the numbers of a list of pairs in a row, two for each pair
-abbrev pub flat : List Pair → List ℕ
-flat [] = []
-flat (p ∷ ps) = p .0 ∷ p .1 ∷ flat ps

@@ -13,11 +13,11 @@ use Rattle.tree.specs.Numbers.{upTo}
 use Rattle.tree.specs.Table
 use Rattle.tree.specs.Levels
 use Rattle.tree.specs.Table.{nodes}
-use Rattle.tree.specs.Levels.{together, Pair, level, levelCount, neighbours}
+use Rattle.tree.specs.Levels.{together, level, levelCount, neighbours}
 use Rattle.tree.specs.WellFormed.{tableConditions}
 use Rattle.rule.specs.Drawing.{Dot}
 use Rattle.rule.specs.Rule.{drawn}
-use Rattle.rule.specs.Record.{SamePairs, flat}
+use Rattle.rule.specs.Record.{flat}
 
 -- ---- places and extremes
 
@@ -98,6 +98,5 @@ pub record Layout (t : List ℕ) (separation : ℕ) (s : Slices) (a : Answer) (u
   pub pairs : a .pairs ≡ granted (layoutNumber t separation s) (length (neighbours t)) 0
   pub places : u .places ≡ after (layoutNumber t separation s) (placesOf separation t) (s .places)
   pub levels : u .levels ≡ after (layoutNumber t separation s) (levelsOf t) (s .levels)
-  -- the record names the neighbours, each pair once, in an order that is left open
-  pub theRecord : (ps : List Pair) × SamePairs ps (neighbours t) × (u .theRecord ≡ after (layoutNumber t separation s) (flat ps) (s .theRecord))
+  pub theRecord : u .theRecord ≡ after (layoutNumber t separation s) (flat (neighbours t)) (s .theRecord)
   pub work : u .work ≡ after (layoutNumber t separation s) (replicate (16 * Table.nodes t) (pos 0)) (s .work)

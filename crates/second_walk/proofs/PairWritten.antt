@@ -9,15 +9,16 @@ use lib.ListN.{set}
 use Rattle.second_walk.specs.SecondWalk.{Seen, Pairs, Paired}
 use Rattle.second_walk.proofs.SeenPosition.{same-node, same-level}
 
-pub pair-written : {work : List ℤ} {left right : ℕ} {measured : List ℕ} {pairs u w : ℕ} (P : Pairs work left right measured pairs) (b : Bool)
-    → eqb (P .leftDepth) (P .rightDepth) ≡ b → u ≡ P .leftNumber → w ≡ P .rightNumber
-    → Paired work left right measured pairs (cond b (pairs + 1) pairs) (cond b (set (set measured (2 * pairs) u) (2 * pairs + 1) w) measured)
-pair-written {work} {left} {right} {measured} {pairs} {u} {w} P b e eu ew =
+pub pair-written : {work : List ℤ} {left right : ℕ} {measured : List ℕ} {pairs at u w : ℕ} (P : Pairs work left right measured pairs) (b : Bool)
+    → eqb (P .leftDepth) (P .rightDepth) ≡ b → at ≡ 2 * pairs → u ≡ P .leftNumber → w ≡ P .rightNumber
+    → Paired work left right measured pairs (cond b (pairs + 1) pairs) (cond b (set (set measured at u) (at + 1) w) measured)
+pair-written {work} {left} {right} {measured} {pairs} {at} {u} {w} P b e begins eu ew =
     record {
       count = λ a k c l S R. ap (λ (x : Bool). cond x (pairs + 1) pairs) (test a k c l S R);
       written = λ a k c l S R.
-          ap₂ (λ (x y : ℕ). cond b (set (set measured (2 * pairs) x) (2 * pairs + 1) y) measured) (eu ∙ same-node (P .leftSeen) S) (ew ∙ same-node (P .rightSeen) R)
-          ∙ ap (λ (x : Bool). cond x (set (set measured (2 * pairs) a) (2 * pairs + 1) c) measured) (test a k c l S R);
+          let first : u ≡ a = eu ∙ same-node (P .leftSeen) S in
+          let second : w ≡ c = ew ∙ same-node (P .rightSeen) R in
+          λ i. cond (test a k c l S R i) (set (set measured (begins i) (first i)) (begins i + 1) (second i)) measured;
     }
   where
     test : (a k c l : ℕ) → Seen work left a k → Seen work right c l → b ≡ eqb k l

@@ -15,19 +15,12 @@ use Rattle.tree.specs.Levels.{Pair, levels, together, level, neighbours}
 use Rattle.tree.specs.WellFormed.{tableNumber}
 use Rattle.tree.proofs.Stands.{accepted-size}
 use Rattle.rule.specs.Record.{flat}
+use Rattle.rule.proofs.Flat.{length-flat, flat-append}
 use Rattle.second_walk.specs.SecondWalk.{paired}
 use Rattle.level_order.proofs.Order.{node-order}
 use Rattle.level_order.proofs.Beside.{link, pairsOn, pairs-next, pairs-few, neighbours-order}
 use Rattle.second_walk.proofs.Positions.{numberAt, levelAt}
 use Rattle.tree.proofs.Joined.{length-levels}
-
-pub length-flat : (ps : List Pair) → length (flat ps) ≡ 2 * length ps
-length-flat [] = refl
-length-flat (p ∷ ps) = omega (arith, length-flat ps)
-
-flat-append : (ps qs : List Pair) → flat (ps ++ qs) ≡ flat ps ++ flat qs
-flat-append [] qs = refl
-flat-append (p ∷ ps) qs = ap (λ (l : List ℕ). p .0 ∷ p .1 ∷ l) (flat-append ps qs)
 
 -- ---- the pairs among the first p positions
 

@@ -83,6 +83,7 @@ module _ {t : List ℕ} {D : ℕ} {rs₀ : List ℕ} {ws₀ ps : List ℤ} {ls r
           rightNumber = numberAt t p;
           rightDepth = levelAt t p;
           rightSeen = seen-here;
+          few = omega (arith, recorded-few accepted (S .measured) (S .some) (S .work .within), accepted-numbers t accepted .few);
           inside = recorded-room accepted (S .measured) (S .some) h;
         }
 

@@ -78,6 +78,7 @@ pub record Pairs (work : List ℤ) (left right : ℕ) (measured : List ℕ) (pai
   pub rightNumber : ℕ
   pub rightDepth : ℕ
   pub rightSeen : Seen work right rightNumber rightDepth
+  pub few : pairs < 1024
   pub inside : 2 * pairs + 1 < length measured
 
 abbrev pub paired : ℕ → ℕ → ℕ → ℕ → ℕ → List ℕ → List ℕ

@@ -1,6 +1,6 @@
 // The second walk, from the first position to the last: places and levels by node number, the extremes, and the record.
 ghost use mathlib.Core.Path.{_≡_};
-ghost use Prim.Native.Nat.{ℕ, _≤_};
+ghost use Prim.Native.Nat.{ℕ, _*_, _≤_, _<_};
 ghost use lib.IntN.{pos};
 ghost use Rattle.tree.specs.WellFormed.{tableNumber};
 ghost use Rattle.rule.specs.Result as result;
@@ -38,6 +38,14 @@ fn write(work: &[i32], p: usize, places: &mut [i32], levels: &mut [u16])
     levels[v] = field::get(work, p, field::LEVEL) as u16;
 }
 
+// The entry of the record at which pair number k begins.
+fn entry(k: usize) -> usize
+    requires { ⌜ k < 1024 ⌝ }
+    ensures { λ r. ⌜ r ≡ 2 * k ⌝ }
+{
+    2 * k
+}
+
 // Writes the pair of two positions that follow each other, if they have one level, and says how many pairs there are now.
 fn pair(work: &[i32], left: usize, right: usize, measured: &mut [u16], pairs: usize) -> usize
     requires { ⌜ Pairs (now work) left right (now measured) pairs ⌝ }
@@ -48,8 +56,9 @@ fn pair(work: &[i32], left: usize, right: usize, measured: &mut [u16], pairs: us
     if left_level != right_level {
         return pairs;
     }
-    measured[2 * pairs] = field::get(work, left, field::NODE) as u16;
-    measured[2 * pairs + 1] = field::get(work, right, field::NODE) as u16;
+    let at = entry(pairs);
+    measured[at] = field::get(work, left, field::NODE) as u16;
+    measured[at + 1] = field::get(work, right, field::NODE) as u16;
     pairs + 1
 }
 

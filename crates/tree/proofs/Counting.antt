@@ -69,6 +69,10 @@ pub all-weaken : {A : Type 0} (P Q : A → Type 0) → ((x : A) → P x → Q x)
 all-weaken P Q h [] a = tt
 all-weaken P Q h (x ∷ l) a = (h x (a .0), all-weaken P Q h l (a .1))
 
+pub all-both : {A : Type 0} (P Q R : A → Type 0) → ((x : A) → P x → Q x → R x) → (l : List A) → All P l → All Q l → All R l
+all-both P Q R h [] a b = tt
+all-both P Q R h (x ∷ l) a b = (h x (a .0) (b .0), all-both P Q R h l (a .1) (b .1))
+
 pub all-map : {A B : Type 0} (f : A → B) (P : A → Type 0) (Q : B → Type 0) → ((x : A) → P x → Q (f x)) → (l : List A) → All P l → All Q (map f l)
 all-map f P Q h [] a = tt
 all-map f P Q h (x ∷ l) a = (h x (a .0), all-map f P Q h l (a .1))

@@ -57,12 +57,12 @@ level t v = levelIn (levels (treeOf t)) v
 abbrev pub Pair : Type 0
 Pair = ℕ × ℕ
 
--- the neighbours on one level
+-- the neighbours on one level, left to right
 abbrev pub sideBySide : List ℕ → List Pair
 sideBySide [] = []
 sideBySide (a ∷ []) = []
 sideBySide (a ∷ b ∷ l) = (a, b) ∷ sideBySide (b ∷ l)
 
--- the neighbours of a table's tree, level by level
+-- the neighbours of a table's tree in reading order: level by level from the top, left to right on each level
 unfoldable pub neighbours : List ℕ → List Pair
 neighbours t = flatMap sideBySide (levels (treeOf t))

@@ -1,0 +1,106 @@
+-- Reading order told by level and place: of two pairs of neighbours the earlier one stands on a higher level, or on the same level and at
+-- least the separation further left. Assumes nothing.
+use mathlib.Core.Logic.{_⊎_, inl, inr}
+use mathlib.Core.Path.{_≡_, sym, _∙_}
+use mathlib.Core.List.{List, [], _∷_, _++_}
+use Prim.Native.Nat.{ℕ, zero, suc, _≤_, _<_}
+use native.Mathlib.Nat.{not-suc-le-zero}
+use native.Mathlib.Omega.{arith}
+use lib.IntN.{ℤ, pos, _+ℤ_}
+use lib.ListN.{length, getD}
+use lib.Signed.{_≤ℤ_}
+use Rattle.tree.specs.Numbers.{flatMap}
+use Rattle.tree.specs.Forest.{treeOf}
+use Rattle.tree.specs.Levels.{Pair, level, levels, sideBySide, neighbours}
+use Rattle.tree.specs.WellFormed.{tableNumber}
+use Rattle.tree.proofs.Counting.{All, all-append, all-left, all-right, all-weaken, all-both}
+use Rattle.tree.proofs.Tests.{all-at}
+use Rattle.rule.specs.Result.{place}
+use Rattle.rule.proofs.Signed.{at-most, parts-le, parts-add}
+use Rattle.rule.proofs.Promises.{neighbours-apart}
+use Rattle.level_order.proofs.Beside.{Leveled, accepted-leveled}
+
+-- ---- lists in which every entry is related to every later one
+
+abbrev InOrder : {A : Type 0} → (A → A → Type 0) → List A → Type 0
+InOrder R [] = Unit {0}
+InOrder R (x ∷ l) = All (R x) l × InOrder R l
+
+in-order-append : {A : Type 0} (R : A → A → Type 0) (l m : List A) → InOrder R l → InOrder R m → All (λ x. All (R x) m) l → InOrder R (l ++ m)
+in-order-append R [] m a b c = b
+in-order-append R (x ∷ l) m a b c = (all-append (R x) l m (a .0) (c .0), in-order-append R l m (a .1) b (c .1))
+
+in-order-at : {A : Type 0} (R : A → A → Type 0) (l : List A) (d : A) → InOrder R l → (i j : ℕ) → i < j → j < length l → R (getD l i d) (getD l j d)
+in-order-at R [] d a i j h k = absurd (not-suc-le-zero k)
+in-order-at R (x ∷ l) d a i zero h k = absurd (not-suc-le-zero h)
+in-order-at R (x ∷ l) d a zero (suc j) h k = all-at (R x) l d (a .0) j (omega arith)
+in-order-at R (x ∷ l) d a (suc i) (suc j) h k = in-order-at R l d (a .1) i j (omega arith) (omega arith)
+
+-- ---- pairs of neighbours
+
+-- node a stands at least D further left than node b
+abbrev pub LeftBy : (ℕ → ℤ) → ℕ → ℕ → ℕ → Type 0
+LeftBy spot D a b = (spot a +ℤ pos D) ≤ℤ spot b
+
+-- pair p comes before pair q: its left node is on a higher level, or on the same level and at least D further left
+abbrev pub ReadBefore : (ℕ → ℕ) → (ℕ → ℤ) → ℕ → Pair → Pair → Type 0
+ReadBefore lev spot D p q = (lev (p .0) < lev (q .0)) ⊎ ((lev (p .0) ≡ lev (q .0)) × LeftBy spot D (p .0) (q .0))
+
+module _ (lev : ℕ → ℕ) (spot : ℕ → ℤ) (D : ℕ) where
+  abbrev Apart : Pair → Type 0
+  Apart p = LeftBy spot D (p .0) (p .1)
+
+  further : (a b c : ℕ) → LeftBy spot D a b → LeftBy spot D b c → LeftBy spot D a c
+  further a b c h k =
+      parts-le (spot a +ℤ pos D) (spot c)
+      (omega (arith, at-most (spot a +ℤ pos D) (spot b) h, at-most (spot b +ℤ pos D) (spot c) k, parts-add (spot a) (pos D), parts-add (spot b) (pos D)))
+
+  -- a stands left of every pair that begins at b or right of it
+  left-of : (a b : ℕ) (l : List ℕ) → LeftBy spot D a b → All Apart (sideBySide (b ∷ l)) → All (λ q. LeftBy spot D a (q .0)) (sideBySide (b ∷ l))
+  left-of a b [] h s = tt
+  left-of a b (c ∷ l) h s = (h, left-of a c l (further a b c h (s .0)) (s .1))
+
+  on-level : (i : ℕ) (l : List ℕ) → All (λ v. lev v ≡ i) l → All (λ q. lev (q .0) ≡ i) (sideBySide l)
+  on-level i [] h = tt
+  on-level i (a ∷ []) h = tt
+  on-level i (a ∷ b ∷ l) h = (h .0, on-level i (b ∷ l) (h .1))
+
+  lower : (i j : ℕ) (ls : List (List ℕ)) → i < j → Leveled lev j ls → All (λ q. i < lev (q .0)) (flatMap sideBySide ls)
+  lower i j [] m h = tt
+  lower i j (l ∷ ls) m h =
+      all-append (λ q. i < lev (q .0)) (sideBySide l) (flatMap sideBySide ls)
+      (all-weaken (λ q. lev (q .0) ≡ j) (λ q. i < lev (q .0)) (λ q e. omega arith) (sideBySide l) (on-level j l (h .0)))
+      (lower i (suc j) ls (omega arith) (h .1))
+
+  one-level : (i : ℕ) (l : List ℕ) → All (λ v. lev v ≡ i) l → All Apart (sideBySide l) → InOrder (ReadBefore lev spot D) (sideBySide l)
+  one-level i [] h s = tt
+  one-level i (a ∷ []) h s = tt
+  one-level i (a ∷ b ∷ l) h s = (
+    all-both (λ q. lev (q .0) ≡ i) (λ q. LeftBy spot D a (q .0)) (ReadBefore lev spot D (a, b)) (λ q e m. inr (h .0 ∙ sym e, m)) (sideBySide (b ∷ l))
+        (on-level i (b ∷ l) (h .1)) (left-of a b l (s .0) (s .1)),
+    one-level i (b ∷ l) (h .1) (s .1),
+  )
+
+  levels-in-order : (i : ℕ) (ls : List (List ℕ)) → Leveled lev i ls → All Apart (flatMap sideBySide ls) → InOrder (ReadBefore lev spot D) (flatMap sideBySide ls)
+  levels-in-order i [] h s = tt
+  levels-in-order i (l ∷ ls) h s =
+      let rest = flatMap sideBySide ls in
+      in-order-append (ReadBefore lev spot D) (sideBySide l) rest
+      (one-level i l (h .0) (all-left Apart (sideBySide l) rest s))
+      (levels-in-order (suc i) ls (h .1) (all-right Apart (sideBySide l) rest s))
+      (all-weaken (λ p. lev (p .0) ≡ i) (λ p. All (ReadBefore lev spot D p) rest)
+      (λ p e. all-weaken (λ q. i < lev (q .0)) (ReadBefore lev spot D p) (λ q m. inl (omega arith)) rest (lower i (suc i) ls (omega arith) (h .1)))
+      (sideBySide l) (on-level i l (h .0)))
+
+  -- no pair comes before itself
+  pub not-itself : 1 ≤ D → (p : Pair) → ReadBefore lev spot D p p → ⊥
+  not-itself some p (inl above) = omega arith
+  not-itself some p (inr beside) = omega (arith, at-most (spot (p .0) +ℤ pos D) (spot (p .0)) (beside .1), parts-add (spot (p .0)) (pos D))
+
+-- the pairs of an accepted table's neighbours come in reading order
+pub neighbours-read : (D : ℕ) (t : List ℕ) → tableNumber t ≡ 0 → (d : Pair) (i j : ℕ) → i < j → j < length (neighbours t)
+    → ReadBefore (level t) (place D t) D (getD (neighbours t) i d) (getD (neighbours t) j d)
+unfolding neighbours
+neighbours-read D t accepted d =
+    in-order-at (ReadBefore (level t) (place D t) D) (neighbours t) d
+    (levels-in-order (level t) (place D t) D 0 (levels (treeOf t)) (accepted-leveled t accepted) (neighbours-apart D t accepted))
