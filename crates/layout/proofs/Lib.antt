@@ -5,4 +5,7 @@ pub mod Standing
 pub mod Cleared
 pub mod Answers
 pub mod ReadingOrder
+pub mod SideBySide
+pub mod NeighboursBeside
+pub mod BelowCount
 pub mod Returned

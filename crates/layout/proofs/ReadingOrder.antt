@@ -22,7 +22,7 @@ use Rattle.level_order.proofs.Beside.{Leveled, accepted-leveled}
 
 -- ---- lists in which every entry is related to every later one
 
-abbrev InOrder : {A : Type 0} → (A → A → Type 0) → List A → Type 0
+abbrev pub InOrder : {A : Type 0} → (A → A → Type 0) → List A → Type 0
 InOrder R [] = Unit {0}
 InOrder R (x ∷ l) = All (R x) l × InOrder R l
 
@@ -46,8 +46,14 @@ LeftBy spot D a b = (spot a +ℤ pos D) ≤ℤ spot b
 abbrev pub ReadBefore : (ℕ → ℕ) → (ℕ → ℤ) → ℕ → Pair → Pair → Type 0
 ReadBefore lev spot D p q = (lev (p .0) < lev (q .0)) ⊎ ((lev (p .0) ≡ lev (q .0)) × LeftBy spot D (p .0) (q .0))
 
-module _ (lev : ℕ → ℕ) (spot : ℕ → ℤ) (D : ℕ) where
-  abbrev Apart : Pair → Type 0
+-- what holds of the nodes of a level holds of the left nodes of its pairs
+left-nodes : (P : ℕ → Type 0) (l : List ℕ) → All P l → All (λ q. P (q .0)) (sideBySide l)
+left-nodes P [] h = tt
+left-nodes P (a ∷ []) h = tt
+left-nodes P (a ∷ b ∷ l) h = (h .0, left-nodes P (b ∷ l) (h .1))
+
+module _ (spot : ℕ → ℤ) (D : ℕ) where
+  abbrev pub Apart : Pair → Type 0
   Apart p = LeftBy spot D (p .0) (p .1)
 
   further : (a b c : ℕ) → LeftBy spot D a b → LeftBy spot D b c → LeftBy spot D a c
@@ -55,42 +61,41 @@ module _ (lev : ℕ → ℕ) (spot : ℕ → ℤ) (D : ℕ) where
       parts-le (spot a +ℤ pos D) (spot c)
       (omega (arith, at-most (spot a +ℤ pos D) (spot b) h, at-most (spot b +ℤ pos D) (spot c) k, parts-add (spot a) (pos D), parts-add (spot b) (pos D)))
 
-  -- a stands left of every pair that begins at b or right of it
-  left-of : (a b : ℕ) (l : List ℕ) → LeftBy spot D a b → All Apart (sideBySide (b ∷ l)) → All (λ q. LeftBy spot D a (q .0)) (sideBySide (b ∷ l))
-  left-of a b [] h s = tt
-  left-of a b (c ∷ l) h s = (h, left-of a c l (further a b c h (s .0)) (s .1))
+  -- a level whose neighbours are apart rises from left to right
+  pub rising : (l : List ℕ) → All Apart (sideBySide l) → InOrder (LeftBy spot D) l
+  rising [] s = tt
+  rising (a ∷ []) s = (tt, tt)
+  rising (a ∷ b ∷ l) s =
+      let r = rising (b ∷ l) (s .1) in
+      ((s .0, all-weaken (LeftBy spot D b) (LeftBy spot D a) (λ c. further a b c (s .0)) l (r .0)), r)
 
-  on-level : (i : ℕ) (l : List ℕ) → All (λ v. lev v ≡ i) l → All (λ q. lev (q .0) ≡ i) (sideBySide l)
-  on-level i [] h = tt
-  on-level i (a ∷ []) h = tt
-  on-level i (a ∷ b ∷ l) h = (h .0, on-level i (b ∷ l) (h .1))
-
+module _ (lev : ℕ → ℕ) (spot : ℕ → ℤ) (D : ℕ) where
   lower : (i j : ℕ) (ls : List (List ℕ)) → i < j → Leveled lev j ls → All (λ q. i < lev (q .0)) (flatMap sideBySide ls)
   lower i j [] m h = tt
   lower i j (l ∷ ls) m h =
       all-append (λ q. i < lev (q .0)) (sideBySide l) (flatMap sideBySide ls)
-      (all-weaken (λ q. lev (q .0) ≡ j) (λ q. i < lev (q .0)) (λ q e. omega arith) (sideBySide l) (on-level j l (h .0)))
+      (all-weaken (λ q. lev (q .0) ≡ j) (λ q. i < lev (q .0)) (λ q e. omega arith) (sideBySide l) (left-nodes (λ v. lev v ≡ j) l (h .0)))
       (lower i (suc j) ls (omega arith) (h .1))
 
-  one-level : (i : ℕ) (l : List ℕ) → All (λ v. lev v ≡ i) l → All Apart (sideBySide l) → InOrder (ReadBefore lev spot D) (sideBySide l)
-  one-level i [] h s = tt
-  one-level i (a ∷ []) h s = tt
-  one-level i (a ∷ b ∷ l) h s = (
+  one-level : (i : ℕ) (l : List ℕ) → All (λ v. lev v ≡ i) l → InOrder (LeftBy spot D) l → InOrder (ReadBefore lev spot D) (sideBySide l)
+  one-level i [] h r = tt
+  one-level i (a ∷ []) h r = tt
+  one-level i (a ∷ b ∷ l) h r = (
     all-both (λ q. lev (q .0) ≡ i) (λ q. LeftBy spot D a (q .0)) (ReadBefore lev spot D (a, b)) (λ q e m. inr (h .0 ∙ sym e, m)) (sideBySide (b ∷ l))
-        (on-level i (b ∷ l) (h .1)) (left-of a b l (s .0) (s .1)),
-    one-level i (b ∷ l) (h .1) (s .1),
+        (left-nodes (λ v. lev v ≡ i) (b ∷ l) (h .1)) (left-nodes (LeftBy spot D a) (b ∷ l) (r .0)),
+    one-level i (b ∷ l) (h .1) (r .1),
   )
 
-  levels-in-order : (i : ℕ) (ls : List (List ℕ)) → Leveled lev i ls → All Apart (flatMap sideBySide ls) → InOrder (ReadBefore lev spot D) (flatMap sideBySide ls)
+  levels-in-order : (i : ℕ) (ls : List (List ℕ)) → Leveled lev i ls → All (Apart spot D) (flatMap sideBySide ls) → InOrder (ReadBefore lev spot D) (flatMap sideBySide ls)
   levels-in-order i [] h s = tt
   levels-in-order i (l ∷ ls) h s =
       let rest = flatMap sideBySide ls in
       in-order-append (ReadBefore lev spot D) (sideBySide l) rest
-      (one-level i l (h .0) (all-left Apart (sideBySide l) rest s))
-      (levels-in-order (suc i) ls (h .1) (all-right Apart (sideBySide l) rest s))
+      (one-level i l (h .0) (rising spot D l (all-left (Apart spot D) (sideBySide l) rest s)))
+      (levels-in-order (suc i) ls (h .1) (all-right (Apart spot D) (sideBySide l) rest s))
       (all-weaken (λ p. lev (p .0) ≡ i) (λ p. All (ReadBefore lev spot D p) rest)
       (λ p e. all-weaken (λ q. i < lev (q .0)) (ReadBefore lev spot D p) (λ q m. inl (omega arith)) rest (lower i (suc i) ls (omega arith) (h .1)))
-      (sideBySide l) (on-level i l (h .0)))
+      (sideBySide l) (left-nodes (λ v. lev v ≡ i) l (h .0)))
 
   -- no pair comes before itself
   pub not-itself : 1 ≤ D → (p : Pair) → ReadBefore lev spot D p p → ⊥

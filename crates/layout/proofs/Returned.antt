@@ -3,7 +3,7 @@
 use mathlib.Core.Path.{_≡_, sym, ap, ap₂, _∙_, subst, subst₂}
 use mathlib.Core.Logic.{inl, inr, ⊎-elim}
 use mathlib.Core.Bool.{true}
-use mathlib.Core.List.{List, [], _∷_, _++_}
+use mathlib.Core.List.{List, _∷_, _++_}
 use Prim.Native.Nat.{ℕ, _+_, _*_, _<_}
 use native.Mathlib.Omega.{arith}
 use lib.IntN.{ℤ, pos, _+ℤ_}
@@ -12,65 +12,25 @@ use lib.Seq.{drop-append-seam}
 use lib.Signed.{_≤ℤ_}
 use Rattle.refusal.specs.After.{granted, overwrite, after}
 use Rattle.refusal.proofs.After.{granted-accepted, after-accepted}
-use Rattle.tree.specs.Numbers.{upTo, flatMap}
+use Rattle.tree.specs.Numbers.{upTo}
 use Rattle.tree.specs.Table.{nodes}
-use Rattle.tree.specs.Forest.{Forest, nil, node, treeOf, preorder}
-use Rattle.tree.specs.Levels.{Pair, beside, levels, level, levelCount, sideBySide, neighbours}
+use Rattle.tree.specs.Levels.{Pair, level, levelCount, neighbours}
 use Rattle.tree.specs.Shape.{corresponding, correspondingUnder, sameOrderedShape, under}
 use Rattle.tree.specs.WellFormed.{tableNumber}
-use Rattle.tree.proofs.Counting.{All, Below, below-or-not, all-append, all-left, all-right, all-both}
+use Rattle.tree.proofs.Counting.{All, below-or-not, all-both}
 use Rattle.tree.proofs.Tests.{all-at}
-use Rattle.tree.proofs.Parts.{part-below}
-use Rattle.tree.proofs.Stands.{accepted-numbers}
 use Rattle.rule.specs.Record.{flat}
 use Rattle.rule.specs.Result.{Slices, Answer, Layout, layoutNumber, place, placesOf, levelsOf, leastOf, greatestOf}
 use Rattle.rule.proofs.Flat.{length-flat, pairAt, flat-at}
-use Rattle.rule.proofs.Promises.{neighbours-count, neighbours-apart, part-at, shapes-equal}
+use Rattle.rule.proofs.PairCounts.{pair-index, index-pair}
+use Rattle.rule.proofs.Promises.{neighbours-count, neighbours-apart, shapes-equal}
 use Rattle.rule.proofs.Extremes.{least-bounds, greatest-bounds, least-met, greatest-met}
 use Rattle.layout.proofs.Answers.{taken}
+use Rattle.layout.proofs.BelowCount.{below-neighbours, below-corresponding, below-under}
 use Rattle.layout.proofs.ReadingOrder.{ReadBefore, not-itself, neighbours-read}
+use Rattle.layout.proofs.SideBySide.{SideBySide, beside-told}
+use Rattle.layout.proofs.NeighboursBeside.{neighbours-beside, beside-neighbours}
 use Rattle.second_walk.proofs.EntryForEach.{map-upTo, length-upTo}
-
--- ---- nodes of lists that are read off a tree are below n
-
-below-beside : (n : ℕ) (xs ys : List (List ℕ)) → All (Below n) xs → All (Below n) ys → All (Below n) (beside xs ys)
-below-beside n [] ys a b = b
-below-beside n (x ∷ xs) [] a b = a
-below-beside n (x ∷ xs) (y ∷ ys) a b = (all-append (λ v. v < n) x y (a .0) (b .0), below-beside n xs ys (a .1) (b .1))
-
-below-levels : (n : ℕ) (f : Forest) → Below n (preorder f) → All (Below n) (levels f)
-below-levels n nil b = tt
-below-levels n (node v f g) b =
-    below-beside n ((v ∷ []) ∷ levels f) (levels g) ((b .0, tt), below-levels n f (all-left (λ x. x < n) (preorder f) (preorder g) (b .1)))
-    (below-levels n g (all-right (λ x. x < n) (preorder f) (preorder g) (b .1)))
-
-below-beside-each : (n : ℕ) (l : List ℕ) → Below n l → All (λ p. (p .0 < n) × (p .1 < n)) (sideBySide l)
-below-beside-each n [] b = tt
-below-beside-each n (x ∷ []) b = tt
-below-beside-each n (x ∷ y ∷ l) b = ((b .0, b .1 .0), below-beside-each n (y ∷ l) (b .1))
-
-below-neighbours : (t : List ℕ) → tableNumber t ≡ 0 → All (λ p. (p .0 < nodes t) × (p .1 < nodes t)) (neighbours t)
-unfolding neighbours
-below-neighbours t e = go (levels (treeOf t)) (below-levels (nodes t) (treeOf t) (accepted-numbers t e .below))
-  where
-    go : (ls : List (List ℕ)) → All (Below (nodes t)) ls → All (λ p. (p .0 < nodes t) × (p .1 < nodes t)) (flatMap sideBySide ls)
-    go [] a = tt
-    go (l ∷ ls) a = all-append (λ p. (p .0 < nodes t) × (p .1 < nodes t)) (sideBySide l) (flatMap sideBySide ls) (below-beside-each (nodes t) l (a .0)) (go ls (a .1))
-
-below-corresponding : (n m : ℕ) (f g : Forest) → Below n (preorder f) → Below m (preorder g) → All (λ p. (p .0 < n) × (p .1 < m)) (corresponding f g)
-below-corresponding n m nil g a b = tt
-below-corresponding n m (node v f h) nil a b = tt
-below-corresponding n m (node v f h) (node w f′ h′) a b = (
-  (a .0, b .0),
-  all-append (λ p. (p .0 < n) × (p .1 < m)) (corresponding f f′) (corresponding h h′)
-      (below-corresponding n m f f′ (all-left (λ x. x < n) (preorder f) (preorder h) (a .1)) (all-left (λ x. x < m) (preorder f′) (preorder h′) (b .1)))
-      (below-corresponding n m h h′ (all-right (λ x. x < n) (preorder f) (preorder h) (a .1)) (all-right (λ x. x < m) (preorder f′) (preorder h′) (b .1))),
-)
-
-below-under : (t : List ℕ) → tableNumber t ≡ 0 → (v : ℕ) → v < nodes t → Below (nodes t) (preorder (under t v))
-below-under t e v h =
-    let p = part-at t e v h in
-    all-left (λ x. x < nodes t) (preorder (under t v)) (preorder (p .0)) (part-below (nodes t) (p .1) (accepted-numbers t e .below) .1)
 
 -- ---- one call
 
@@ -159,6 +119,22 @@ module _ (t : List ℕ) (D : ℕ) (s : Slices) (a : Answer) (u : Slices) (L : La
       apart-from i j m k e =
           not-itself levelOf placeOf D (taken t D s number-0 .some) (pairOf j)
           (subst (λ (p : Pair). ReadBefore levelOf placeOf D p (pairOf j)) e (reading-order-returned i j m k))
+
+  -- The record names two nodes exactly when they stand side by side: on one level, the first left of the second, and none between them.
+  abbrev pub Beside : ℕ → ℕ → Type 0
+  Beside x y = SideBySide (λ v. v < nodes t) levelOf placeOf x y
+
+  pub named-returned : (x y i : ℕ) → i < a .pairs → pairOf i ≡ (x, y) → Beside x y
+  named-returned x y i h e =
+      let occurs = index-pair x y (neighbours t) (0, 0) i (omega (arith, pair-count)) (sym (pair-returned (0, 0) i h) ∙ e) in
+      let B = neighbours-beside D t (taken t D s number-0 .some) accepted x y occurs in
+      beside-told _ _ (level t) levelOf (place D t) placeOf x y (λ v k. (sym (level-returned v k), sym (place-returned v k))) (λ v k m. k) (B .left-in) (B .right-in) B
+
+  pub beside-returned : (x y : ℕ) → Beside x y → (i : ℕ) × (i < a .pairs) × (pairOf i ≡ (x, y))
+  beside-returned x y B =
+      let drawn = beside-told _ _ levelOf (level t) placeOf (place D t) x y (λ v k. (level-returned v k, place-returned v k)) (λ v k m. k) (B .left-in) (B .right-in) B in
+      let m = pair-index x y (neighbours t) (0, 0) (beside-neighbours D t (taken t D s number-0 .some) accepted x y drawn) in
+      (m .0, omega (arith, m .1, pair-count), pair-returned (0, 0) (m .0) (omega (arith, m .1, pair-count)) ∙ m .2)
 
   -- pairs = nodes - levels
   pub pairs-returned : a .pairs + a .levels ≡ a .nodes

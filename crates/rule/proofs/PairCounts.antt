@@ -1,12 +1,14 @@
 -- How often a pair occurs in a list of pairs, and how many pairs of neighbours levels have. Assumes nothing.
-use mathlib.Core.Path.{_≡_, refl, ap₂}
+use mathlib.Core.Path.{_≡_, refl, sym, ap, ap₂}
+use mathlib.Core.Logic.{_⊎_, inl, inr, ⊎-elim}
 use mathlib.Core.Bool.{Bool, true, false, cond, _&&_}
 use mathlib.Core.List.{List, [], _∷_, _++_}
-use Prim.Native.Nat.{ℕ, _+_, _≤_}
+use Prim.Native.Nat.{ℕ, zero, suc, _+_, _≤_, _<_}
+use native.Mathlib.Nat.{not-suc-le-zero}
 use native.Mathlib.Omega.{arith}
 use lib.Dec.{eqb}
-use lib.ListN.{length, length-append}
-use borrow.Author.Tests.{eq-eqb}
+use lib.ListN.{length, getD, length-append}
+use borrow.Author.Tests.{eq-eqb, eqb-true}
 use Rattle.tree.specs.Numbers.{is, count}
 use Rattle.tree.specs.Levels.{Pair, together, sideBySide}
 use Rattle.tree.proofs.Counting.{All, sumOver, count-append}
@@ -16,6 +18,15 @@ use Rattle.rule.proofs.Pairs.{pairsIn}
 
 pub is-pair : (a b : ℕ) → isPair a b (a, b) ≡ 1
 is-pair a b = ap₂ (λ (x y : Bool). cond (x && y) 1 0) (eq-eqb a a refl) (eq-eqb b b refl)
+
+-- either the pair is (a, b), or it does not count
+pub pair-cases : (a b : ℕ) (p : Pair) → ((a ≡ p .0) × (b ≡ p .1)) ⊎ (isPair a b p ≡ 0)
+pair-cases a b p = go (eqb a (p .0)) (eqb b (p .1)) refl refl
+  where
+    go : (x y : Bool) → eqb a (p .0) ≡ x → eqb b (p .1) ≡ y → ((a ≡ p .0) × (b ≡ p .1)) ⊎ (isPair a b p ≡ 0)
+    go true true e f = inl (eqb-true a (p .0) e, eqb-true b (p .1) f)
+    go true false e f = inr (ap₂ (λ (x y : Bool). cond (x && y) 1 0) e f)
+    go false y e f = inr (ap (λ (x : Bool). cond (x && eqb b (p .1)) 1 0) e)
 
 pub pairCount-sum : (a b : ℕ) (l : List Pair) → pairCount a b l ≡ sumOver (isPair a b) l
 pairCount-sum a b [] = refl
@@ -28,6 +39,19 @@ length-sum (p ∷ l) = omega (arith, length-sum l)
 pub pairCount-append : (a b : ℕ) (l m : List Pair) → pairCount a b (l ++ m) ≡ pairCount a b l + pairCount a b m
 pairCount-append a b [] m = omega arith
 pairCount-append a b (p ∷ l) m = omega (arith, pairCount-append a b l m)
+
+-- a pair that occurs has an index, and the pair at an index occurs
+pub pair-index : (x y : ℕ) (ps : List Pair) (d : Pair) → 1 ≤ pairCount x y ps → (i : ℕ) × (i < length ps) × (getD ps i d ≡ (x, y))
+pair-index x y [] d c = absurd (omega arith)
+pair-index x y (p ∷ ps) d c =
+    ⊎-elim (λ e. (0, omega arith, sym (λ i. (e .0 i, e .1 i))))
+    (λ e. let m = pair-index x y ps d (omega (arith, e, c)) in (suc (m .0), omega (arith, m .1), m .2))
+    (pair-cases x y p)
+
+pub index-pair : (x y : ℕ) (ps : List Pair) (d : Pair) (i : ℕ) → i < length ps → getD ps i d ≡ (x, y) → 1 ≤ pairCount x y ps
+index-pair x y [] d i h e = absurd (not-suc-le-zero h)
+index-pair x y (p ∷ ps) d zero h e = omega (arith, is-pair x y, ap (isPair x y) e)
+index-pair x y (p ∷ ps) d (suc i) h e = omega (arith, index-pair x y ps d i (omega arith) e)
 
 -- a pair on a level takes up one occurrence of its left node
 pair-le : (a b : ℕ) (p : Pair) → isPair a b p ≤ is a (p .0)

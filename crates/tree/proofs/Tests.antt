@@ -1,9 +1,9 @@
 -- A test that some element of a list passes, the same said of every element, and the members of a list of numbers. Assumes nothing.
 use mathlib.Core.Path.{_≡_, refl, sym, ap, _∙_, subst}
-use mathlib.Core.Logic.{⊎-elim}
+use mathlib.Core.Logic.{_⊎_, inl, inr, ⊎-elim}
 use mathlib.Core.Bool.{Bool, true, false, _||_, true≢false}
 use mathlib.Core.List.{List, [], _∷_, _++_}
-use Prim.Native.Nat.{ℕ, zero, suc, _≤_, _<_}
+use Prim.Native.Nat.{ℕ, zero, suc, _+_, _≤_, _<_}
 use native.Mathlib.Nat.{not-suc-le-zero, le-of-suc-le-suc}
 use native.Mathlib.Omega.{arith}
 use lib.Dec.{eqb}
@@ -11,7 +11,7 @@ use lib.ListN.{length, getD}
 use borrow.Author.Tests.{eq-eqb, eqb-true}
 use Rattle.refusal.proofs.Truth.{true-or-false, or-false-left, or-false-right, or-false}
 use Rattle.tree.specs.Numbers.{count, any, member, upTo}
-use Rattle.tree.proofs.Counting.{All, all-append, all-left, all-right, is-same, is-cases}
+use Rattle.tree.proofs.Counting.{All, all-append, all-left, all-right, is-same, is-cases, count-append}
 
 -- ---- no element passes
 
@@ -88,3 +88,18 @@ member-all P x (y ∷ l) a e =
     ⊎-elim (λ h. subst P (sym (eqb-true x y h)) (a .0))
     (λ h. member-all P x l (a .1) (sym (ap (λ (b : Bool). b || member x l) h) ∙ e))
     (true-or-false (eqb x y))
+
+pub counted-all : (P : ℕ → Type 0) (l : List ℕ) → All P l → (x : ℕ) → 1 ≤ count x l → P x
+counted-all P l a x h = member-all P x l a (count-member x l h)
+
+-- ---- a number that occurs in a longer list
+
+pub one-of : (a b : ℕ) → 1 ≤ a + b → (1 ≤ a) ⊎ (1 ≤ b)
+one-of zero b h = inr (omega arith)
+one-of (suc a) b h = inl (omega arith)
+
+pub in-cons : (v x : ℕ) (l : List ℕ) → 1 ≤ count v (x ∷ l) → (v ≡ x) ⊎ (1 ≤ count v l)
+in-cons v x l h = ⊎-elim (λ e. inl (e .0)) (λ d. inr (omega (arith, d .1))) (is-cases v x)
+
+pub in-append : (v : ℕ) (l m : List ℕ) → 1 ≤ count v (l ++ m) → (1 ≤ count v l) ⊎ (1 ≤ count v m)
+in-append v l m h = one-of (count v l) (count v m) (omega (arith, count-append v l m))
