@@ -75,6 +75,7 @@ module _ (spot : ℕ → ℤ) (D : ℕ) (some : 1 ≤ D) where
       (in-cons y b l d))
       (in-cons y a (b ∷ l) c)
 
+  -- two nodes of a level that stand side by side are a pair of neighbours
   pub named : (l : List ℕ) → InOrder (LeftBy spot D) l → (x y : ℕ) → 1 ≤ count x l → 1 ≤ count y l → spot x <ℤ spot y
       → ((z : ℕ) → 1 ≤ count z l → NotBetween spot x y z) → 1 ≤ pairCount x y (sideBySide l)
   named [] r x y c d left clear = absurd (omega arith)
@@ -95,6 +96,7 @@ module _ (spot : ℕ → ℤ) (D : ℕ) (some : 1 ≤ D) where
           omega (arith, is-pair a b, ap₂ (λ (v w : ℕ). isPair v w (a, b)) e f)
 
 module _ (lev : ℕ → ℕ) (spot : ℕ → ℤ) (D : ℕ) (some : 1 ≤ D) where
+  -- and the nodes of a pair of neighbours stand side by side
   pub beside : (i : ℕ) (l : List ℕ) → All (λ v. lev v ≡ i) l → InOrder (LeftBy spot D) l → (x y : ℕ) → 1 ≤ pairCount x y (sideBySide l) → Within lev spot l x y
   beside i [] h r x y c = absurd (omega arith)
   beside i (a ∷ []) h r x y c = absurd (omega arith)
