@@ -4,8 +4,4 @@ pub mod Redrawn
 pub mod Standing
 pub mod Cleared
 pub mod Answers
-pub mod ReadingOrder
-pub mod SideBySide
-pub mod NeighboursBeside
-pub mod BelowCount
 pub mod Returned

@@ -1,17 +1,17 @@
 -- What an accepted call of the layout returns: the record, the order and the distance of neighbours, the extremes, and equal shapes in one
 -- call or in two of one separation. Assumes nothing.
-use mathlib.Core.Path.{_≡_, sym, ap, ap₂, _∙_, subst, subst₂}
+use mathlib.Core.Path.{_≡_, sym, ap, _∙_, subst, subst₂}
 use mathlib.Core.Logic.{inl, inr, ⊎-elim}
 use mathlib.Core.Bool.{true}
 use mathlib.Core.List.{List, _∷_, _++_}
-use Prim.Native.Nat.{ℕ, _+_, _*_, _<_}
+use Prim.Native.Nat.{ℕ, _+_, _*_, _≤_, _<_}
 use native.Mathlib.Omega.{arith}
 use lib.IntN.{ℤ, pos, _+ℤ_}
 use lib.ListN.{length, getD, drop, length-map, List·getD-append}
-use lib.Seq.{drop-append-seam}
+use lib.Seq.{drop-at}
 use lib.Signed.{_≤ℤ_}
 use Rattle.refusal.specs.After.{granted, overwrite, after}
-use Rattle.refusal.proofs.After.{granted-accepted, after-accepted}
+use Rattle.refusal.proofs.After.{granted-accepted, after-accepted, overwrite-split}
 use Rattle.tree.specs.Numbers.{upTo}
 use Rattle.tree.specs.Table.{nodes}
 use Rattle.tree.specs.Levels.{Pair, level, levelCount, neighbours}
@@ -22,14 +22,13 @@ use Rattle.tree.proofs.Tests.{all-at}
 use Rattle.rule.specs.Record.{flat}
 use Rattle.rule.specs.Result.{Slices, Answer, Layout, layoutNumber, place, placesOf, levelsOf, leastOf, greatestOf}
 use Rattle.rule.proofs.Flat.{length-flat, pairAt, flat-at}
-use Rattle.rule.proofs.PairCounts.{pair-index, index-pair}
+use Rattle.rule.proofs.PairCounts.{pair-index}
 use Rattle.rule.proofs.Promises.{neighbours-count, neighbours-apart, shapes-equal}
 use Rattle.rule.proofs.Extremes.{least-bounds, greatest-bounds, least-met, greatest-met}
+use Rattle.rule.proofs.ReadingOrder.{LeftBy, ReadBefore, not-itself, neighbours-read}
+use Rattle.rule.proofs.SideBySide.{SideBySide, beside-told, neighbours-beside, beside-neighbours}
+use Rattle.rule.proofs.Corresponding.{below-corresponding, below-under}
 use Rattle.layout.proofs.Answers.{taken}
-use Rattle.layout.proofs.BelowCount.{below-neighbours, below-corresponding, below-under}
-use Rattle.layout.proofs.ReadingOrder.{ReadBefore, not-itself, neighbours-read}
-use Rattle.layout.proofs.SideBySide.{SideBySide, beside-told}
-use Rattle.layout.proofs.NeighboursBeside.{neighbours-beside, beside-neighbours}
 use Rattle.second_walk.proofs.EntryForEach.{map-upTo, length-upTo}
 
 -- ---- one call
@@ -77,12 +76,10 @@ module _ (t : List ℕ) (D : ℕ) (s : Slices) (a : Answer) (u : Slices) (L : La
 
   -- The record is the neighbours, level by level from the top and left to right on each level; entries past the pairs are untouched.
   pub record-returned : u .theRecord ≡ flat (neighbours t) ++ drop (2 * a .pairs) (s .theRecord)
-  record-returned =
-      written (flat (neighbours t)) (s .theRecord) (u .theRecord) (L .theRecord)
-      ∙ ap (λ (k : ℕ). flat (neighbours t) ++ drop k (s .theRecord)) recorded-length
+  record-returned = L .theRecord ∙ after-accepted _ _ _ number-0 ∙ overwrite-split (2 * a .pairs) (flat (neighbours t)) (s .theRecord) recorded-length
 
   pub rest-returned : drop (2 * a .pairs) (u .theRecord) ≡ drop (2 * a .pairs) (s .theRecord)
-  rest-returned = ap₂ drop (sym recorded-length) record-returned ∙ drop-append-seam (flat (neighbours t)) (drop (2 * a .pairs) (s .theRecord))
+  rest-returned = ap (drop (2 * a .pairs)) record-returned ∙ drop-at (flat (neighbours t)) (drop (2 * a .pairs) (s .theRecord)) (2 * a .pairs) recorded-length
 
   -- the pair at each index
   abbrev pub pairOf : ℕ → Pair
@@ -92,6 +89,16 @@ module _ (t : List ℕ) (D : ℕ) (s : Slices) (a : Answer) (u : Slices) (L : La
   pair-returned d i h =
       ap (λ (l : List ℕ). pairAt l i) record-returned ∙ flat-at (neighbours t) (drop (2 * a .pairs) (s .theRecord)) d i (omega (arith, pair-count))
 
+  -- pairs of the drawing, and of what the slices hold
+  left-returned : (v w : ℕ) → v < nodes t → w < nodes t → LeftBy (place D t) D v w → LeftBy placeOf D v w
+  left-returned v w h k = subst₂ (λ (x y : ℤ). (x +ℤ pos D) ≤ℤ y) (sym (place-returned v h)) (sym (place-returned w k))
+
+  abbrev some : 1 ≤ D
+  some = taken t D s number-0 .some
+
+  beside-at : (i : ℕ) → i < a .pairs → SideBySide (λ v. v < nodes t) (level t) (place D t) (getD (neighbours t) i (0, 0) .0) (getD (neighbours t) i (0, 0) .1)
+  beside-at i h = all-at _ (neighbours t) (0, 0) (neighbours-beside D t some accepted) i (omega (arith, pair-count))
+
   -- of two pairs the earlier one stands on a higher level, or on the same level and at least the separation further left
   pub reading-order-returned : (i j : ℕ) → i < j → j < a .pairs → ReadBefore levelOf placeOf D (pairOf i) (pairOf j)
   reading-order-returned i j h k =
@@ -100,15 +107,11 @@ module _ (t : List ℕ) (D : ℕ) (s : Slices) (a : Answer) (u : Slices) (L : La
       (neighbours-read D t accepted (0, 0) i j h (omega (arith, pair-count))))
     where
       inside : (i : ℕ) → i < a .pairs → getD (neighbours t) i (0, 0) .0 < nodes t
-      inside i h = all-at (λ p. (p .0 < nodes t) × (p .1 < nodes t)) (neighbours t) (0, 0) (below-neighbours t accepted) i (omega (arith, pair-count)) .0
+      inside i h = beside-at i h .left-in
 
       told : (p q : Pair) → p .0 < nodes t → q .0 < nodes t → ReadBefore (level t) (place D t) D p q → ReadBefore levelOf placeOf D p q
       told p q h k (inl above) = inl (omega (arith, level-returned (p .0) h, level-returned (q .0) k))
-      told p q h k (inr beside) =
-          inr (
-            level-returned (p .0) h ∙ beside .0 ∙ sym (level-returned (q .0) k),
-            subst₂ (λ (x y : ℤ). (x +ℤ pos D) ≤ℤ y) (sym (place-returned (p .0) h)) (sym (place-returned (q .0) k)) (beside .1),
-          )
+      told p q h k (inr beside) = inr (level-returned (p .0) h ∙ beside .0 ∙ sym (level-returned (q .0) k), left-returned (p .0) (q .0) h k (beside .1))
 
   -- each pair once
   pub once-returned : (i j : ℕ) → i < a .pairs → j < a .pairs → pairOf i ≡ pairOf j → i ≡ j
@@ -117,23 +120,23 @@ module _ (t : List ℕ) (D : ℕ) (s : Slices) (a : Answer) (u : Slices) (L : La
     where
       apart-from : (i j : ℕ) → i < j → j < a .pairs → pairOf i ≡ pairOf j → ⊥
       apart-from i j m k e =
-          not-itself levelOf placeOf D (taken t D s number-0 .some) (pairOf j)
+          not-itself levelOf placeOf D some (pairOf j)
           (subst (λ (p : Pair). ReadBefore levelOf placeOf D p (pairOf j)) e (reading-order-returned i j m k))
 
   -- The record names two nodes exactly when they stand side by side: on one level, the first left of the second, and none between them.
   abbrev pub Beside : ℕ → ℕ → Type 0
   Beside x y = SideBySide (λ v. v < nodes t) levelOf placeOf x y
 
-  pub named-returned : (x y i : ℕ) → i < a .pairs → pairOf i ≡ (x, y) → Beside x y
-  named-returned x y i h e =
-      let occurs = index-pair x y (neighbours t) (0, 0) i (omega (arith, pair-count)) (sym (pair-returned (0, 0) i h) ∙ e) in
-      let B = neighbours-beside D t (taken t D s number-0 .some) accepted x y occurs in
-      beside-told _ _ (level t) levelOf (place D t) placeOf x y (λ v k. (sym (level-returned v k), sym (place-returned v k))) (λ v k m. k) (B .left-in) (B .right-in) B
+  pub named-returned : (i : ℕ) → i < a .pairs → Beside (pairOf i .0) (pairOf i .1)
+  named-returned i h =
+      let B = beside-at i h in
+      subst (λ (p : Pair). Beside (p .0) (p .1)) (sym (pair-returned (0, 0) i h))
+      (beside-told _ _ (level t) levelOf (place D t) placeOf _ _ (λ v k. (sym (level-returned v k), sym (place-returned v k))) (λ v k m. k) (B .left-in) (B .right-in) B)
 
   pub beside-returned : (x y : ℕ) → Beside x y → (i : ℕ) × (i < a .pairs) × (pairOf i ≡ (x, y))
   beside-returned x y B =
       let drawn = beside-told _ _ levelOf (level t) placeOf (place D t) x y (λ v k. (level-returned v k, place-returned v k)) (λ v k m. k) (B .left-in) (B .right-in) B in
-      let m = pair-index x y (neighbours t) (0, 0) (beside-neighbours D t (taken t D s number-0 .some) accepted x y drawn) in
+      let m = pair-index x y (neighbours t) (0, 0) (beside-neighbours D t some accepted x y drawn) in
       (m .0, omega (arith, m .1, pair-count), pair-returned (0, 0) (m .0) (omega (arith, m .1, pair-count)) ∙ m .2)
 
   -- pairs = nodes - levels
@@ -143,10 +146,7 @@ module _ (t : List ℕ) (D : ℕ) (s : Slices) (a : Answer) (u : Slices) (L : La
 
   -- neighbours stand in tree order, at least the separation apart
   pub apart-returned : All (λ p. (placeOf (p .0) +ℤ pos D) ≤ℤ (placeOf (p .1))) (neighbours t)
-  apart-returned =
-      all-both (λ p. (p .0 < nodes t) × (p .1 < nodes t)) (λ p. (place D t (p .0) +ℤ pos D) ≤ℤ (place D t (p .1))) (λ p. (placeOf (p .0) +ℤ pos D) ≤ℤ (placeOf (p .1)))
-      (λ p b h. subst₂ (λ (x y : ℤ). (x +ℤ pos D) ≤ℤ y) (sym (place-returned (p .0) (b .0))) (sym (place-returned (p .1) (b .1))) h) (neighbours t)
-      (below-neighbours t accepted) (neighbours-apart D t accepted)
+  apart-returned = all-both _ _ _ (λ p B. left-returned (p .0) (p .1) (B .left-in) (B .right-in)) (neighbours t) (neighbours-beside D t some accepted) (neighbours-apart D t accepted)
 
   -- least and greatest are the places of two nodes, and no place is outside them
   pub least-returned : ((v : ℕ) → v < nodes t → a .least ≤ℤ placeOf v) × ((v : ℕ) × (v < nodes t) × (placeOf v ≡ a .least))

@@ -11,7 +11,7 @@ use Rattle.tree.specs.Forest.{Forest, nil, node, roots, entry, siblings, preord
 use Rattle.tree.specs.Levels.{level}
 use Rattle.tree.specs.WellFormed.{tableNumber}
 use Rattle.tree.proofs.Counting.{All, all-append, from-more}
-use Rattle.tree.proofs.Tests.{member-all, count-member}
+use Rattle.tree.proofs.Tests.{counted-all}
 use Rattle.tree.proofs.Stands.{accepted-numbers, accepted-size}
 use Rattle.rule.specs.Drawing.{Drawing, none, at, middle, Dot, dot, dots}
 use Rattle.rule.specs.Join.{above0}
@@ -156,10 +156,10 @@ module _ (D : ℕ) (t : List ℕ) (accepted : tableNumber t ≡ 0) where
     placed-children q h =
         let tree = positionTree f n in
         let laid : Laid (firstAt f) 0 1 (names (draw D tree)) = subst (Laid (firstAt f) 0 1) (sym (names-draw D tree)) (laid-run (firstAt f) n O 0 1 (omega arith) some) in
-        member-all (Children (firstAt f) (get work PLACE) X L) q (preorder tree)
+        counted-all (Children (firstAt f) (get work PLACE) X L) (preorder tree)
         (subst (λ (g : Forest). All (Children (firstAt f) (get work PLACE) X L) (preorder g)) (names-draw D tree)
         (all-children (firstAt f) (get work PLACE) X L (draw D tree) 0 1 0 0 0 (pos 0) laid P position-stands))
-        (count-member q (preorder tree) (in-tree q h))
+        q (in-tree q h)
 
     -- the root's own offset is 0
     placed-root : get work PLACE 0 ≡ pos 0

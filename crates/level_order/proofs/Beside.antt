@@ -1,6 +1,5 @@
 -- Neighbours in level order: they are the nodes that follow each other and have one level. Assumes nothing.
 use mathlib.Core.Path.{_≡_, refl, sym, ap, ap₂, _∙_}
-use mathlib.Core.Logic.{_⊎_, ⊎-elim}
 use mathlib.Core.Bool.{Bool, true, false, cond}
 use mathlib.Core.List.{List, [], _∷_, _++_, append-assoc, append-nil}
 use Prim.Native.Nat.{ℕ, zero, suc, _+_, _-_, _≤_, _<_}
@@ -10,16 +9,16 @@ use lib.Dec.{eqb}
 use lib.ListN.{length, getD, take, length-append}
 use lib.Seq.{getD-append-add}
 use borrow.Author.Tests.{eq-eqb, ne-eqb}
-use Rattle.tree.specs.Numbers.{count, flatMap}
+use Rattle.tree.specs.Numbers.{flatMap}
 use Rattle.tree.specs.Table.{nodes}
-use Rattle.tree.specs.Forest.{treeOf, preorder}
-use Rattle.tree.specs.Levels.{Pair, levels, together, levelIn, level, levelCount, sideBySide, neighbours}
+use Rattle.tree.specs.Forest.{treeOf}
+use Rattle.tree.specs.Levels.{Pair, levels, together, level, levelCount, sideBySide, neighbours}
 use Rattle.tree.specs.WellFormed.{tableNumber}
-use Rattle.tree.proofs.Counting.{All, is-same, below-or-not, count-append, count-outside}
-use Rattle.tree.proofs.Tests.{count-member, none-member, all-at}
-use Rattle.tree.proofs.Stands.{accepted-numbers, accepted-size}
+use Rattle.tree.proofs.Counting.{All}
+use Rattle.tree.proofs.Tests.{all-at}
+use Rattle.tree.proofs.Stands.{accepted-size}
 use Rattle.tree.proofs.Joined.{Some, some, levels-some, length-levels}
-use Rattle.tree.proofs.LevelOf.{count-levels}
+use Rattle.tree.proofs.Leveled.{Leveled, accepted-leveled}
 use Rattle.level_order.specs.LevelOrder.{nodeAt}
 use Rattle.level_order.proofs.Order.{node-order}
 
@@ -63,16 +62,12 @@ module _ (lev : ℕ → ℕ) where
 
   -- ---- levels, of which the first is level i
 
-  abbrev pub Leveled : ℕ → List (List ℕ) → Type 0
-  Leveled i [] = Unit {0}
-  Leveled i (l ∷ ls) = All (λ v. lev v ≡ i) l × Leveled (suc i) ls
-
   -- what follows is not on level i
   abbrev Later : ℕ → List ℕ → Type 0
   Later i [] = Unit {0}
   Later i (b ∷ l) = lev b ≡ i → ⊥
 
-  later : (i : ℕ) (ls : List (List ℕ)) → Leveled (suc i) ls → All Some ls → Later i (together ls)
+  later : (i : ℕ) (ls : List (List ℕ)) → Leveled lev (suc i) ls → All Some ls → Later i (together ls)
   later i [] h s = tt
   later i ([] ∷ ls) h s = absurd (not-suc-le-zero (some-length (s .0)))
   later i ((b ∷ l) ∷ ls) h s = λ e. omega (arith, h .0 .0, e)
@@ -84,7 +79,7 @@ module _ (lev : ℕ → ℕ) where
   one-level i a (b ∷ l) rest h d =
       ap₂ _++_ (link-same a b (h .0 ∙ sym (h .1 .0))) (one-level i b l rest (h .1) d)
 
-  pub level-pairs : (i : ℕ) (ls : List (List ℕ)) → Leveled i ls → All Some ls → pairsOn lev (together ls) ≡ flatMap sideBySide ls
+  pub level-pairs : (i : ℕ) (ls : List (List ℕ)) → Leveled lev i ls → All Some ls → pairsOn lev (together ls) ≡ flatMap sideBySide ls
   level-pairs i [] h s = refl
   level-pairs i ([] ∷ ls) h s = level-pairs (suc i) ls (h .1) (s .1)
   level-pairs i ((a ∷ l) ∷ ls) h s =
@@ -92,7 +87,7 @@ module _ (lev : ℕ → ℕ) where
       ∙ ap (λ (m : List Pair). sideBySide (a ∷ l) ++ m) (level-pairs (suc i) ls (h .1) (s .1))
 
   -- the last node is on the last level
-  pub last-level : (i j : ℕ) (ls : List (List ℕ)) → Leveled i ls → All Some ls → suc j ≡ length (together ls) → suc (lev (getD (together ls) j 0)) ≡ i + length ls
+  pub last-level : (i j : ℕ) (ls : List (List ℕ)) → Leveled lev i ls → All Some ls → suc j ≡ length (together ls) → suc (lev (getD (together ls) j 0)) ≡ i + length ls
   last-level i j [] h s e = absurd (omega arith)
   last-level i j (l ∷ []) h s e =
       omega (arith, all-at (λ v. lev v ≡ i) l 0 (h .0) j (omega (arith, e, length-append l [])), ap (λ (m : List ℕ). lev (getD m j 0)) (append-nil l))
@@ -106,53 +101,18 @@ module _ (lev : ℕ → ℕ) where
         ap lev (sym (ap (λ (x : ℕ). getD (l ++ together ((b ∷ m) ∷ ls)) x 0) r) ∙ getD-append-add l (together ((b ∷ m) ∷ ls)) (j - length l) 0),
       )
 
--- ---- the level on which a node is found
-
-all-counted : (P : ℕ → Type 0) (l : List ℕ) → ((v : ℕ) → 1 ≤ count v l → P v) → All P l
-all-counted P [] h = tt
-all-counted P (x ∷ l) h = (h x (omega (arith, is-same x x refl)), all-counted P l (λ v k. h v (omega (arith, k))))
-
-pub leveled : (lev : ℕ → ℕ) (i : ℕ) (ls : List (List ℕ)) → ((v : ℕ) → 1 ≤ count v (together ls) → lev v ≡ i + levelIn ls v)
-    → ((v : ℕ) → count v (together ls) ≤ 1) → Leveled lev i ls
-leveled lev i [] h once = tt
-leveled lev i (l ∷ ls) h once = (
-  all-counted (λ v. lev v ≡ i) l (λ v k.
-      omega (
-        arith,
-        h v (omega (arith, k, count-append v l (together ls))),
-        ap (λ (b : Bool). cond b 0 (suc (levelIn ls v))) (count-member v l k),
-      )),
-  leveled lev (suc i) ls (λ v k.
-      omega (
-        arith,
-        h v (omega (arith, k, count-append v l (together ls))),
-        ap (λ (b : Bool). cond b 0 (suc (levelIn ls v))) (none-member v l (omega (arith, k, once v, count-append v l (together ls)))),
-      ))
-      (λ v. omega (arith, once v, count-append v l (together ls))),
-)
-
 -- ---- an accepted table
 
 module _ (t : List ℕ) (accepted : tableNumber t ≡ 0) where
-  once : (v : ℕ) → count v (together (levels (treeOf t))) ≤ 1
-  once v =
-      ⊎-elim (λ h. omega (arith, count-levels v (treeOf t), accepted-numbers t accepted .each v (h .0)))
-      (λ h. omega (arith, count-levels v (treeOf t), count-outside (nodes t) (preorder (treeOf t)) (accepted-numbers t accepted .below) v (h .0)))
-      (below-or-not v (nodes t))
-
-  pub accepted-leveled : Leveled (level t) 0 (levels (treeOf t))
-  unfolding level
-  accepted-leveled = leveled (level t) 0 (levels (treeOf t)) (λ v h. omega arith) once
-
   -- the neighbours are the pairs of level order
   pub neighbours-order : pairsOn (level t) (together (levels (treeOf t))) ≡ neighbours t
   unfolding neighbours
-  neighbours-order = level-pairs (level t) 0 (levels (treeOf t)) accepted-leveled (levels-some (treeOf t))
+  neighbours-order = level-pairs (level t) 0 (levels (treeOf t)) (accepted-leveled t accepted) (levels-some (treeOf t))
 
   -- the count of levels is one more than the level of the last position
   pub last-count : (p : ℕ) → suc p ≡ nodes t → suc (level t (nodeAt (treeOf t) p)) ≡ levelCount t
   unfolding levelCount
   last-count p e =
       ap (λ (v : ℕ). suc (level t v)) (node-order (treeOf t) p (omega (arith, accepted-size t accepted)))
-      ∙ last-level (level t) 0 p (levels (treeOf t)) accepted-leveled (levels-some (treeOf t)) (omega (arith, length-levels (treeOf t), accepted-size t accepted))
+      ∙ last-level (level t) 0 p (levels (treeOf t)) (accepted-leveled t accepted) (levels-some (treeOf t)) (omega (arith, length-levels (treeOf t), accepted-size t accepted))
       ∙ omega arith

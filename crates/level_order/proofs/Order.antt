@@ -11,10 +11,10 @@ use Rattle.tree.specs.Table.{nodes}
 use Rattle.tree.specs.Forest.{Forest, nil, node, join, roots, size, entry, preorder, treeOf}
 use Rattle.tree.specs.Levels.{levels, together}
 use Rattle.tree.specs.WellFormed.{tableNumber}
-use Rattle.tree.proofs.Counting.{is-cases, count-outside, below-or-not}
+use Rattle.tree.proofs.Counting.{is-cases}
 use Rattle.tree.proofs.Places.{count-at}
 use Rattle.tree.proofs.Walked.{oneDown, levels-down}
-use Rattle.tree.proofs.Stands.{Numbers, accepted-numbers, accepted-size}
+use Rattle.tree.proofs.Stands.{Numbers, accepted-numbers, accepted-inside, accepted-size}
 use Rattle.tree.proofs.Joined.{size-join, join-nil, join-assoc, length-levels}
 use Rattle.tree.proofs.LevelOf.{count-levels}
 use Rattle.level_order.specs.LevelOrder.{step, nodeAt}
@@ -82,10 +82,7 @@ module _ (t : List ℕ) (accepted : tableNumber t ≡ 0) where
   inside p h = omega (arith, accepted-size t accepted)
 
   pub node-below : (p : ℕ) → p < nodes t → nodeAt (treeOf t) p < nodes t
-  node-below p h =
-      ⊎-elim (λ l. l .0)
-      (λ l. absurd (omega (arith, occurs (treeOf t) p (inside p h), count-outside (nodes t) (preorder (treeOf t)) (N .below) (nodeAt (treeOf t) p) (l .0))))
-      (below-or-not (nodeAt (treeOf t) p) (nodes t))
+  node-below p h = accepted-inside t accepted (nodeAt (treeOf t) p) (occurs (treeOf t) p (inside p h))
 
   -- every number below n has a position
   pub position-of : (v : ℕ) → v < nodes t → (p : ℕ) × (p < nodes t) × (nodeAt (treeOf t) p ≡ v)

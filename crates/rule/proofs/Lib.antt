@@ -18,6 +18,9 @@ pub mod Exact
 pub mod Led
 pub mod Width
 pub mod Promises
+pub mod ReadingOrder
+pub mod SideBySide
+pub mod Corresponding
 pub mod Tight
 pub mod Extremes
 pub mod AtOnce

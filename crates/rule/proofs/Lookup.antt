@@ -8,14 +8,13 @@ use native.Mathlib.Omega.{arith}
 use lib.IntN.{pos}
 use borrow.Author.Tests.{eq-eqb, ne-eqb}
 use Rattle.tree.specs.Numbers.{count, member}
-use Rattle.tree.specs.Table.{nodes}
-use Rattle.tree.specs.Forest.{node, preorder, treeOf}
+use Rattle.tree.specs.Forest.{node, treeOf}
 use Rattle.tree.specs.Levels.{levels, together, levelIn, level}
 use Rattle.tree.specs.WellFormed.{tableNumber}
-use Rattle.tree.proofs.Counting.{is-same, is-cases, below-or-not, count-append, count-outside}
+use Rattle.tree.proofs.Counting.{is-same, is-cases, count-append}
 use Rattle.refusal.proofs.Truth.{true-or-false}
 use Rattle.tree.proofs.Tests.{member-count, member-none}
-use Rattle.tree.proofs.Stands.{Numbers, accepted-numbers}
+use Rattle.tree.proofs.Stands.{accepted-once}
 use Rattle.tree.proofs.LevelOf.{count-levels}
 use Rattle.rule.specs.Drawing.{Dot}
 use Rattle.rule.specs.Rule.{draw, drawn}
@@ -77,18 +76,7 @@ module _ (D : ℕ) (t : List ℕ) (accepted : tableNumber t ≡ 0) where
   nodes-drawn = nodes-dots 0 (pos 0) (draw D (treeOf t)) ∙ ap levels (names-draw D (treeOf t))
 
   once : (x : ℕ) → count x (together (map nodesOf (drawn D t))) ≤ 1
-  once x =
-      ⊎-elim (λ h. omega (arith, ap (λ (l : List (List ℕ)). count x (together l)) nodes-drawn, count-levels x (treeOf t), N .each x (h .0)))
-      (λ h. omega (
-        arith,
-        ap (λ (l : List (List ℕ)). count x (together l)) nodes-drawn,
-        count-levels x (treeOf t),
-        count-outside (nodes t) (preorder (treeOf t)) (N .below) x (h .0),
-      ))
-      (below-or-not x (nodes t))
-    where
-      N : Numbers (nodes t) (treeOf t)
-      N = accepted-numbers t accepted
+  once x = omega (arith, ap (λ (l : List (List ℕ)). count x (together l)) nodes-drawn, count-levels x (treeOf t), accepted-once t accepted x)
 
   pub dot-place : (e : Dot) (l : ℕ) → OnLevel e l (drawn D t) → place D t (e .node) ≡ e .place
   unfolding place

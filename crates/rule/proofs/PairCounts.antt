@@ -3,8 +3,7 @@ use mathlib.Core.Path.{_≡_, refl, sym, ap, ap₂}
 use mathlib.Core.Logic.{_⊎_, inl, inr, ⊎-elim}
 use mathlib.Core.Bool.{Bool, true, false, cond, _&&_}
 use mathlib.Core.List.{List, [], _∷_, _++_}
-use Prim.Native.Nat.{ℕ, zero, suc, _+_, _≤_, _<_}
-use native.Mathlib.Nat.{not-suc-le-zero}
+use Prim.Native.Nat.{ℕ, suc, _+_, _≤_, _<_}
 use native.Mathlib.Omega.{arith}
 use lib.Dec.{eqb}
 use lib.ListN.{length, getD, length-append}
@@ -40,18 +39,13 @@ pub pairCount-append : (a b : ℕ) (l m : List Pair) → pairCount a b (l ++ m) 
 pairCount-append a b [] m = omega arith
 pairCount-append a b (p ∷ l) m = omega (arith, pairCount-append a b l m)
 
--- a pair that occurs has an index, and the pair at an index occurs
+-- a pair that occurs has an index
 pub pair-index : (x y : ℕ) (ps : List Pair) (d : Pair) → 1 ≤ pairCount x y ps → (i : ℕ) × (i < length ps) × (getD ps i d ≡ (x, y))
 pair-index x y [] d c = absurd (omega arith)
 pair-index x y (p ∷ ps) d c =
     ⊎-elim (λ e. (0, omega arith, sym (λ i. (e .0 i, e .1 i))))
     (λ e. let m = pair-index x y ps d (omega (arith, e, c)) in (suc (m .0), omega (arith, m .1), m .2))
     (pair-cases x y p)
-
-pub index-pair : (x y : ℕ) (ps : List Pair) (d : Pair) (i : ℕ) → i < length ps → getD ps i d ≡ (x, y) → 1 ≤ pairCount x y ps
-index-pair x y [] d i h e = absurd (not-suc-le-zero h)
-index-pair x y (p ∷ ps) d zero h e = omega (arith, is-pair x y, ap (isPair x y) e)
-index-pair x y (p ∷ ps) d (suc i) h e = omega (arith, index-pair x y ps d i (omega arith) e)
 
 -- a pair on a level takes up one occurrence of its left node
 pair-le : (a b : ℕ) (p : Pair) → isPair a b p ≤ is a (p .0)

@@ -1,6 +1,5 @@
 -- The promises of the written rule, for every accepted table and every separation. Assumes nothing.
 use mathlib.Core.Path.{_≡_, refl, sym, ap, _∙_, subst, subst₂}
-use mathlib.Core.Logic.{⊎-elim}
 use mathlib.Core.Bool.{true}
 use mathlib.Core.List.{List, [], _∷_, map, List·Memᴰ, List·Memᴰ·head, List·Memᴰ·tail}
 use Prim.Native.Nat.{ℕ, suc, _+_, _≤_, _<_}
@@ -13,10 +12,10 @@ use Rattle.tree.specs.Forest.{Forest, node, forest, forestFrom, treeOf, preorde
 use Rattle.tree.specs.Levels.{Pair, levels, level, levelCount, sideBySide, neighbours}
 use Rattle.tree.specs.Shape.{under, sameOrderedShape, correspondingUnder, corresponding}
 use Rattle.tree.specs.WellFormed.{tableNumber}
-use Rattle.tree.proofs.Counting.{All, all-append, all-left, all-weaken, sumOver, below-or-not, count-outside}
+use Rattle.tree.proofs.Counting.{All, all-append, all-left, all-weaken, sumOver}
 use Rattle.tree.proofs.Linked.{read-back}
 use Rattle.tree.proofs.Parts.{Part, locate, part-agrees, part-below, part-size}
-use Rattle.tree.proofs.Stands.{accepted-numbers, accepted-size, accepted-agrees}
+use Rattle.tree.proofs.Stands.{accepted-numbers, accepted-once, accepted-size, accepted-agrees}
 use Rattle.tree.proofs.LevelOf.{count-levels}
 use Rattle.rule.specs.Drawing.{Drawing, none, width, middle, Dot, dot, dots}
 use Rattle.rule.specs.Rule.{draw, drawn, recorded}
@@ -51,15 +50,7 @@ module _ (t : List ℕ) (accepted : tableNumber t ≡ 0) where
   -- each pair of neighbours once
   pub neighbours-once : (a b : ℕ) → pairCount a b (neighbours t) ≤ 1
   unfolding neighbours
-  neighbours-once a b =
-      ⊎-elim (λ h. omega (arith, levels-once a b (levels (treeOf t)), count-levels a (treeOf t), accepted-numbers t accepted .each a (h .0)))
-      (λ h. omega (
-        arith,
-        levels-once a b (levels (treeOf t)),
-        count-levels a (treeOf t),
-        count-outside (nodes t) (preorder (treeOf t)) (accepted-numbers t accepted .below) a (h .0),
-      ))
-      (below-or-not a (nodes t))
+  neighbours-once a b = omega (arith, levels-once a b (levels (treeOf t)), count-levels a (treeOf t), accepted-once t accepted a)
 
   -- pairs and levels together are as many as the nodes
   pub neighbours-count : length (neighbours t) + levelCount t ≡ nodes t

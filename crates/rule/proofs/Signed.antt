@@ -3,12 +3,12 @@
 -- of each sum and difference in it. Assumes nothing.
 use mathlib.Core.Path.{_≡_, refl, sym, ap, subst}
 use mathlib.Core.Logic.{_⊎_, inl, inr, ⊎-elim}
-use mathlib.Core.Bool.{Bool, true, false, cond}
+use mathlib.Core.Bool.{Bool, true, false, cond, not}
 use Prim.Native.Nat.{ℕ, zero, suc, _+_, _-_, _≤_, _<_}
 use native.Mathlib.Omega.{arith}
 use lib.Dec.{T, ltb, leb→le, le→leb}
 use lib.IntN.{ℤ, pos, negsuc, natAbs, subℕ, _+ℤ_, _-ℤ_, negℤ}
-use lib.Signed.{_≤ℤ_, leZ, mag}
+use lib.Signed.{_≤ℤ_, _<ℤ_, leZ, ltZ, ltZ-yes, ltZ-no, mag}
 use borrow.Author.Tests.{ltb-true, ltb-false, leb-true, leb-false}
 use Rattle.rule.specs.Join.{above0}
 
@@ -88,6 +88,14 @@ parts-le (pos a) (pos b) h = record { le = le→leb a b (omega arith) }
 parts-le (pos a) (negsuc b) h = absurd (omega arith)
 parts-le (negsuc a) (pos b) h = record { le = tt }
 parts-le (negsuc a) (negsuc b) h = record { le = le→leb b a (omega arith) }
+
+-- of two numbers, one is below the other or not
+pub not-le : (x y : ℤ) → (y ≤ℤ x → ⊥) → x <ℤ y
+not-le x y h = go (ltZ x y) refl
+  where
+    go : (t : Bool) → ltZ x y ≡ t → x <ℤ y
+    go true e = ltZ-yes (subst T (sym e) tt)
+    go false e = absurd (h (ltZ-no (subst (λ (t : Bool). T (not t)) (sym e) tt)))
 
 -- x is below y, said of the parts
 abbrev pub Under : ℤ → ℤ → Type 0

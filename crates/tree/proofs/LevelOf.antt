@@ -13,9 +13,9 @@ use Rattle.tree.specs.Levels.{childrenOf, beside, levels, together, leve
 use Rattle.tree.specs.WellFormed.{tableNumber}
 use Rattle.tree.proofs.Counting.{is-same, count-append}
 use Rattle.refusal.proofs.Truth.{true-or-false}
-use Rattle.tree.proofs.Tests.{member-count, member-none, count-member, none-member, member-append, member-all}
+use Rattle.tree.proofs.Tests.{member-count, member-none, count-member, none-member, member-append}
 use Rattle.tree.proofs.Parts.{Part, whole, in-children, in-siblings, part-count}
-use Rattle.tree.proofs.Stands.{accepted-numbers}
+use Rattle.tree.proofs.Stands.{accepted-numbers, accepted-inside}
 use Rattle.tree.proofs.Walked.{oneDown, levels-down}
 use Rattle.tree.proofs.Followed.{followed-part}
 
@@ -138,12 +138,10 @@ module _ (t : List ℕ) (e : tableNumber t ≡ 0) where
     where
       inside : w < nodes t
       inside =
-          member-all (λ x. x < nodes t) w (preorder (treeOf t)) (accepted-numbers t e .below)
-          (count-member w (preorder (treeOf t))
-          (omega (
+          accepted-inside t e w (omega (
             arith,
             part-count w (followed-part t e v h),
             member-count w (roots (forest t (firstChild t v))) m,
             count-roots w (forest t (firstChild t v)),
             count-append w (preorder (forest t (firstChild t v))) (preorder (forest t (nextSibling t v))),
-          )))
+          ))

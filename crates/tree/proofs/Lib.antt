@@ -17,6 +17,7 @@ pub mod Cases
 pub mod Joined
 pub mod Walked
 pub mod LevelOf
+pub mod Leveled
 pub mod Mirrored
 pub mod Renumbered
 pub mod Answers

@@ -11,7 +11,7 @@ use Rattle.tree.specs.Table.{none, nodes, firstChild, nextSibling}
 use Rattle.tree.specs.Forest.{Forest, nil, node, forestFrom, forest, treeOf, size, preorder, entry, siblings}
 use Rattle.tree.specs.WellFormed.{tableConditions, tableNumber, Passed}
 use Rattle.tree.proofs.Counting.{is-other, count-append, Below, all-left, all-right, sumOver, sumOver-append, sumOver-same, sumOver-upTo, below-upTo, count-upTo, distinct-length, covering-length}
-use Rattle.tree.proofs.Tests.{at-all}
+use Rattle.tree.proofs.Tests.{at-all, counted-all}
 use Rattle.tree.proofs.Reading.{Agrees, names, named-by-rows, size-preorder}
 use Rattle.tree.proofs.Linked.{Names, read-back, tree-below, tree-distinct, tree-agrees, tree-entry}
 use Rattle.tree.proofs.Accepted.{linked, length-good, named-entries, alone-root, once-named, all-reached, size-reached}
@@ -68,6 +68,17 @@ accepted-numbers t e =
     single (node v f nil) r a s few b = refl
     single (node v f (node w g h)) r a s few b =
         absurd (omega (arith, all-right (λ x. x < nodes t) (preorder f) (preorder (node w g h)) (b .1) .0, sym (a .1) ∙ ap (nextSibling t) r ∙ s))
+
+-- so a number that occurs is below n, and none occurs twice
+pub accepted-inside : (t : List ℕ) → tableNumber t ≡ 0 → (v : ℕ) → 1 ≤ count v (preorder (treeOf t)) → v < nodes t
+accepted-inside t e = counted-all (λ v. v < nodes t) (preorder (treeOf t)) (accepted-numbers t e .below)
+
+pub accepted-once : (t : List ℕ) → tableNumber t ≡ 0 → (v : ℕ) → count v (preorder (treeOf t)) ≤ 1
+accepted-once t e v = go (count v (preorder (treeOf t))) (λ h. omega (arith, accepted-numbers t e .each v (accepted-inside t e v h)))
+  where
+    go : (k : ℕ) → (1 ≤ k → k ≤ 1) → k ≤ 1
+    go zero h = omega arith
+    go (suc k) h = h (omega arith)
 
 pub accepted-size : (t : List ℕ) → tableNumber t ≡ 0 → size (treeOf t) ≡ nodes t
 accepted-size t e = numbers-size (nodes t) (treeOf t) (accepted-numbers t e)

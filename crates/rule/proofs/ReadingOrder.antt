@@ -15,26 +15,25 @@ use Rattle.tree.specs.Levels.{Pair, level, levels, sideBySide, neighbours}
 use Rattle.tree.specs.WellFormed.{tableNumber}
 use Rattle.tree.proofs.Counting.{All, all-append, all-left, all-right, all-weaken, all-both}
 use Rattle.tree.proofs.Tests.{all-at}
+use Rattle.tree.proofs.Leveled.{Leveled, accepted-leveled}
 use Rattle.rule.specs.Result.{place}
 use Rattle.rule.proofs.Signed.{at-most, parts-le, parts-add}
 use Rattle.rule.proofs.Promises.{neighbours-apart}
-use Rattle.level_order.proofs.Beside.{Leveled, accepted-leveled}
 
--- ---- lists in which every entry is related to every later one
+-- every entry of the list is related to every later one
+abbrev pub Pairwise : {A : Type 0} → (A → A → Type 0) → List A → Type 0
+Pairwise R [] = Unit {0}
+Pairwise R (x ∷ l) = All (R x) l × Pairwise R l
 
-abbrev pub InOrder : {A : Type 0} → (A → A → Type 0) → List A → Type 0
-InOrder R [] = Unit {0}
-InOrder R (x ∷ l) = All (R x) l × InOrder R l
+pairwise-append : {A : Type 0} (R : A → A → Type 0) (l m : List A) → Pairwise R l → Pairwise R m → All (λ x. All (R x) m) l → Pairwise R (l ++ m)
+pairwise-append R [] m a b c = b
+pairwise-append R (x ∷ l) m a b c = (all-append (R x) l m (a .0) (c .0), pairwise-append R l m (a .1) b (c .1))
 
-in-order-append : {A : Type 0} (R : A → A → Type 0) (l m : List A) → InOrder R l → InOrder R m → All (λ x. All (R x) m) l → InOrder R (l ++ m)
-in-order-append R [] m a b c = b
-in-order-append R (x ∷ l) m a b c = (all-append (R x) l m (a .0) (c .0), in-order-append R l m (a .1) b (c .1))
-
-in-order-at : {A : Type 0} (R : A → A → Type 0) (l : List A) (d : A) → InOrder R l → (i j : ℕ) → i < j → j < length l → R (getD l i d) (getD l j d)
-in-order-at R [] d a i j h k = absurd (not-suc-le-zero k)
-in-order-at R (x ∷ l) d a i zero h k = absurd (not-suc-le-zero h)
-in-order-at R (x ∷ l) d a zero (suc j) h k = all-at (R x) l d (a .0) j (omega arith)
-in-order-at R (x ∷ l) d a (suc i) (suc j) h k = in-order-at R l d (a .1) i j (omega arith) (omega arith)
+pairwise-at : {A : Type 0} (R : A → A → Type 0) (l : List A) (d : A) → Pairwise R l → (i j : ℕ) → i < j → j < length l → R (getD l i d) (getD l j d)
+pairwise-at R [] d a i j h k = absurd (not-suc-le-zero k)
+pairwise-at R (x ∷ l) d a i zero h k = absurd (not-suc-le-zero h)
+pairwise-at R (x ∷ l) d a zero (suc j) h k = all-at (R x) l d (a .0) j (omega arith)
+pairwise-at R (x ∷ l) d a (suc i) (suc j) h k = pairwise-at R l d (a .1) i j (omega arith) (omega arith)
 
 -- ---- pairs of neighbours
 
@@ -62,7 +61,7 @@ module _ (spot : ℕ → ℤ) (D : ℕ) where
       (omega (arith, at-most (spot a +ℤ pos D) (spot b) h, at-most (spot b +ℤ pos D) (spot c) k, parts-add (spot a) (pos D), parts-add (spot b) (pos D)))
 
   -- a level whose neighbours are apart rises from left to right
-  pub rising : (l : List ℕ) → All Apart (sideBySide l) → InOrder (LeftBy spot D) l
+  pub rising : (l : List ℕ) → All Apart (sideBySide l) → Pairwise (LeftBy spot D) l
   rising [] s = tt
   rising (a ∷ []) s = (tt, tt)
   rising (a ∷ b ∷ l) s =
@@ -77,7 +76,7 @@ module _ (lev : ℕ → ℕ) (spot : ℕ → ℤ) (D : ℕ) where
       (all-weaken (λ q. lev (q .0) ≡ j) (λ q. i < lev (q .0)) (λ q e. omega arith) (sideBySide l) (left-nodes (λ v. lev v ≡ j) l (h .0)))
       (lower i (suc j) ls (omega arith) (h .1))
 
-  one-level : (i : ℕ) (l : List ℕ) → All (λ v. lev v ≡ i) l → InOrder (LeftBy spot D) l → InOrder (ReadBefore lev spot D) (sideBySide l)
+  one-level : (i : ℕ) (l : List ℕ) → All (λ v. lev v ≡ i) l → Pairwise (LeftBy spot D) l → Pairwise (ReadBefore lev spot D) (sideBySide l)
   one-level i [] h r = tt
   one-level i (a ∷ []) h r = tt
   one-level i (a ∷ b ∷ l) h r = (
@@ -86,11 +85,11 @@ module _ (lev : ℕ → ℕ) (spot : ℕ → ℤ) (D : ℕ) where
     one-level i (b ∷ l) (h .1) (r .1),
   )
 
-  levels-in-order : (i : ℕ) (ls : List (List ℕ)) → Leveled lev i ls → All (Apart spot D) (flatMap sideBySide ls) → InOrder (ReadBefore lev spot D) (flatMap sideBySide ls)
+  levels-in-order : (i : ℕ) (ls : List (List ℕ)) → Leveled lev i ls → All (Apart spot D) (flatMap sideBySide ls) → Pairwise (ReadBefore lev spot D) (flatMap sideBySide ls)
   levels-in-order i [] h s = tt
   levels-in-order i (l ∷ ls) h s =
       let rest = flatMap sideBySide ls in
-      in-order-append (ReadBefore lev spot D) (sideBySide l) rest
+      pairwise-append (ReadBefore lev spot D) (sideBySide l) rest
       (one-level i l (h .0) (rising spot D l (all-left (Apart spot D) (sideBySide l) rest s)))
       (levels-in-order (suc i) ls (h .1) (all-right (Apart spot D) (sideBySide l) rest s))
       (all-weaken (λ p. lev (p .0) ≡ i) (λ p. All (ReadBefore lev spot D p) rest)
@@ -107,5 +106,5 @@ pub neighbours-read : (D : ℕ) (t : List ℕ) → tableNumber t ≡ 0 → (d : 
     → ReadBefore (level t) (place D t) D (getD (neighbours t) i d) (getD (neighbours t) j d)
 unfolding neighbours
 neighbours-read D t accepted d =
-    in-order-at (ReadBefore (level t) (place D t) D) (neighbours t) d
+    pairwise-at (ReadBefore (level t) (place D t) D) (neighbours t) d
     (levels-in-order (level t) (place D t) D 0 (levels (treeOf t)) (accepted-leveled t accepted) (neighbours-apart D t accepted))
