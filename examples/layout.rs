@@ -1,4 +1,5 @@
-// Lays a tree out and prints each node's number, level and place, and then the neighbours as they are read. From the repository's root:
+// Lays a tree out and prints each node's number, level and place, and then the pairs of neighbours
+// in reading order. From the repository's root:
 //
 //     rustc --edition 2021 -D warnings examples/layout.rs -C link-arg=target/staticlib/libexports.a -o layout
 
