@@ -1,53 +1,35 @@
 -- The answers of the layout: its number, what a refusal gives, and what an acceptance gives. Assumes nothing.
-use mathlib.Core.Path.{_≡_, refl, sym, ap, ap₂, _∙_}
+use mathlib.Core.Path.{_≡_, sym, ap, _∙_}
 use mathlib.Core.Logic.{_⊎_, inl, inr}
-use mathlib.Core.Bool.{Bool, true, false, cond, not, _||_, _&&_}
+use mathlib.Core.Bool.{Bool, true, false, cond, _||_}
 use mathlib.Core.List.{List, [], _∷_, _++_}
 use Prim.Native.Nat.{ℕ, _*_, _≤_, _<_}
 use native.Mathlib.Omega.{arith}
-use lib.Dec.{ltb, leb}
+use lib.Dec.{ltb}
 use lib.IntN.{ℤ, pos}
 use lib.ListN.{length, take, drop, replicate, length-replicate, length-map}
-use borrow.Author.Tests.{ltb-false, leb-true, lt-ltb, le-ltb, le-leb, lt-leb, not-false}
-use Rattle.refusal.specs.First.{_⇐_}
+use borrow.Author.Tests.{ltb-false, lt-ltb, le-ltb}
+use Rattle.refusal.specs.First.{Condition, _⇐_, first}
 use Rattle.refusal.specs.After.{overwrite, after}
 use Rattle.refusal.proofs.After.{granted-accepted, granted-refused, after-accepted, after-refused, overwrite-split, overwrite-front}
-use Rattle.refusal.proofs.Laws.{first-refused, first-passed, first-none, none-first}
+use Rattle.refusal.proofs.Laws.{first-none}
 use Rattle.tree.specs.Numbers.{upTo}
 use Rattle.tree.specs.Table.{nodes}
 use Rattle.tree.specs.Levels.{level, neighbours, levelCount}
-use Rattle.tree.specs.WellFormed.{tableConditions, tableNumber}
-use Rattle.refusal.proofs.Truth.{or-false-left, or-false-right, or-false, or-true, and-left, and-right}
+use Rattle.tree.specs.WellFormed.{tableNumber}
+use Rattle.tree.proofs.Number.{table-refused, table-passed, table-first}
+use Rattle.refusal.proofs.Truth.{or-false-left, or-false-right, or-false, or-true}
 use Rattle.rule.specs.Record.{flat}
 use Rattle.rule.specs.Result.{Slices, badSeparation, shortResults, shortWork, layoutNumber, placesOf, levelsOf, place, Layout}
 use Rattle.rule.proofs.Flat.{length-flat}
 use Rattle.rule.proofs.Promises.{neighbours-count}
+use Rattle.rule.proofs.Separation.{good-separation}
 use Rattle.layout.specs.Operation.{slices, answer}
 use Rattle.second_walk.specs.SecondWalk.{Settled}
 use Rattle.second_walk.proofs.EntryForEach.{length-upTo}
 pub use Rattle.second_walk.proofs.Extreme.{least-small, greatest-small}
 
 -- ---- the tests
-
-module _ (D : ℕ) where
-  pub separation-bad : (D < 1) ⊎ (1024 < D) → badSeparation D ≡ true
-  unfolding badSeparation
-  separation-bad (inl h) = ap (λ (b : Bool). not (b && leb D 1024)) (lt-leb 1 D h)
-  separation-bad (inr h) = ap (λ (b : Bool). not (leb 1 D && b)) (lt-leb D 1024 h) ∙ off (leb 1 D)
-    where
-      off : (b : Bool) → not (b && false) ≡ true
-      off true = refl
-      off false = refl
-
-  pub separation-good : 1 ≤ D → D ≤ 1024 → badSeparation D ≡ false
-  unfolding badSeparation
-  separation-good h k = ap₂ (λ (a b : Bool). not (a && b)) (le-leb 1 D h) (le-leb D 1024 k)
-
-  good-separation : badSeparation D ≡ false → (1 ≤ D) × (D ≤ 1024)
-  unfolding badSeparation
-  good-separation e =
-      let b = not-false (leb 1 D && leb D 1024) e in
-      (leb-true 1 D (and-left (leb 1 D) (leb D 1024) b), leb-true D 1024 (and-right (leb 1 D) (leb D 1024) b))
 
 module _ (t : List ℕ) (s : Slices) where
   pub results-short : (length (s .places) < nodes t) ⊎ ((length (s .levels) < nodes t) ⊎ (length (s .theRecord) < 2 * nodes t)) → shortResults t s ≡ true
@@ -72,14 +54,17 @@ module _ (t : List ℕ) (s : Slices) where
 -- ---- the number
 
 module _ (t : List ℕ) (D : ℕ) (s : Slices) where
-  pub number-table : (k : ℕ) → k ≡ tableNumber t → (k ≡ 0 → ⊥) → k ≡ layoutNumber t D s
-  unfolding layoutNumber tableNumber
-  number-table k e d = e ∙ sym (first-refused (tableConditions t) (6 ⇐ badSeparation D ∷ 7 ⇐ shortResults t s ∷ 8 ⇐ shortWork t s ∷ []) (λ z. d (e ∙ z)))
+  -- the conditions after the table's
+  abbrev own : List Condition
+  own = 6 ⇐ badSeparation D ∷ 7 ⇐ shortResults t s ∷ 8 ⇐ shortWork t s ∷ []
 
-  number-later : tableNumber t ≡ 0 → layoutNumber t D s ≡ cond (badSeparation D) 6 (cond (shortResults t s) 7 (cond (shortWork t s) 8 0))
-  unfolding layoutNumber tableNumber tableConditions
-  number-later e =
-      first-passed (tableConditions t) (6 ⇐ badSeparation D ∷ 7 ⇐ shortResults t s ∷ 8 ⇐ shortWork t s ∷ []) (first-none (tableConditions t) (omega arith) e)
+  pub number-table : (k : ℕ) → k ≡ tableNumber t → (k ≡ 0 → ⊥) → k ≡ layoutNumber t D s
+  unfolding layoutNumber
+  number-table k e d = e ∙ sym (table-refused t own (λ z. d (e ∙ z)))
+
+  number-later : tableNumber t ≡ 0 → layoutNumber t D s ≡ first own
+  unfolding layoutNumber
+  number-later e = table-passed t own e
 
   module _ (accepted : tableNumber t ≡ 0) where
     pub number-6 : badSeparation D ≡ true → 6 ≡ layoutNumber t D s
@@ -105,15 +90,16 @@ module _ (t : List ℕ) (D : ℕ) (s : Slices) where
     pub work : 16 * nodes t ≤ length (s .work)
 
   pub taken : layoutNumber t D s ≡ 0 → Taken
-  unfolding layoutNumber tableNumber tableConditions shortResults shortWork
+  unfolding layoutNumber shortResults shortWork
   taken e =
-      let h = first-none (tableConditions t ++ (6 ⇐ badSeparation D ∷ 7 ⇐ shortResults t s ∷ 8 ⇐ shortWork t s ∷ [])) (omega arith) e in
-      let six = h .1 .1 .1 .1 .1 .0 in
-      let seven = h .1 .1 .1 .1 .1 .1 .0 in
-      let eight = h .1 .1 .1 .1 .1 .1 .1 .0 in
+      let accepted = table-first t own e in
+      let h = first-none own (omega arith) (sym (number-later accepted) ∙ e) in
+      let six = h .0 in
+      let seven = h .1 .0 in
+      let eight = h .1 .1 .0 in
       let first-two = or-false-left (ltb (length (s .places)) (nodes t) || ltb (length (s .levels)) (nodes t)) (ltb (length (s .theRecord)) (2 * nodes t)) seven in
       record {
-        table = none-first (tableConditions t) (h .0, (h .1 .0, (h .1 .1 .0, (h .1 .1 .1 .0, (h .1 .1 .1 .1 .0, tt)))));
+        table = accepted;
         some = good-separation D six .0;
         small = good-separation D six .1;
         places = ltb-false (length (s .places)) (nodes t) (or-false-left (ltb (length (s .places)) (nodes t)) (ltb (length (s .levels)) (nodes t)) first-two);

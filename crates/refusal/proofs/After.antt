@@ -2,10 +2,10 @@
 -- Assumes nothing.
 use mathlib.Core.Path.{_≡_, refl, sym, ap, _∙_}
 use mathlib.Core.List.{List, [], _∷_, _++_, append-assoc}
-use Prim.Native.Nat.{ℕ, zero, suc, _+_, _≤_, _<_}
+use Prim.Native.Nat.{ℕ, zero, suc, _+_, _-_, _≤_, _<_}
 use native.Mathlib.Omega.{arith}
 use lib.ListN.{length, getD, take, drop, set, length-append, length-drop, take-append-drop}
-use lib.Seq.{drop-cons, set-at, append-snoc, take-at, drop-append-le, length-take-le}
+use lib.Seq.{drop-cons, drop-drop, drop-append-add, set-at, append-snoc, take-at, drop-append-le, length-take-le}
 use Rattle.refusal.specs.After.{granted, overwrite, after}
 
 module _ {A : Type 0} where
@@ -47,6 +47,18 @@ module _ {A : Type 0} where
       let within : length new ≤ length (take n old) = rw (length-take-le n old room) fits in
       append-assoc new (drop (length new) (take n old)) (drop n old)
       ∙ ap (λ (rest : List A). new ++ rest) (sym (drop-append-le (length new) (take n old) (drop n old) within) ∙ ap (drop (length new)) (take-append-drop n old))
+
+  -- entries that are overwritten again
+  pub overwrite-again : (new more old : List A) → length more ≤ length new → overwrite new (overwrite more old) ≡ overwrite new old
+  unfolding overwrite
+  overwrite-again new more old fits =
+      let k : ℕ = length new - length more in
+      let whole : length more + k ≡ length new = omega arith in
+      ap (λ (rest : List A). new ++ rest)
+      (ap (λ (n : ℕ). drop n (more ++ drop (length more) old)) (sym whole)
+      ∙ drop-append-add more (drop (length more) old) k
+      ∙ drop-drop k (length more) old
+      ∙ ap (λ (n : ℕ). drop n old) whole)
 
   -- an entry stored behind the new ones is one more of them
   pub store-one : (new old : List A) (i : ℕ) (x : A) → length new ≡ i → i < length old → set (overwrite new old) i x ≡ overwrite (new ++ x ∷ []) old

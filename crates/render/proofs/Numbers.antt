@@ -8,7 +8,8 @@ use Rattle.refusal.proofs.After.{granted-accepted, granted-refused}
 use Rattle.tree.specs.WellFormed.{tableNumber}
 use Rattle.tree.proofs.Stands.{accepted-numbers}
 use Rattle.rule.specs.Result.{Slices, layoutNumber}
-use Rattle.layout.proofs.Answers.{separation-good, results-long, work-long, number-table, number-0}
+use Rattle.rule.proofs.Separation.{separation-good}
+use Rattle.layout.proofs.Answers.{results-long, work-long, number-table, number-0}
 use Rattle.lines.specs.Listing.{refusedLine}
 use Rattle.render.specs.Text.{unlessRefused}
 

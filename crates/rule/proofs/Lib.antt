@@ -24,5 +24,6 @@ pub mod Corresponding
 pub mod Tight
 pub mod Extremes
 pub mod AtOnce
+pub mod Separation
 pub mod Fixed
 pub mod Cases

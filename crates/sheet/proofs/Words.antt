@@ -60,7 +60,7 @@ getD-zeros (w ∷ ws) m zero = refl
 getD-zeros (w ∷ ws) m (suc k) = getD-zeros ws m k
 
 module _ (words : List ℕ) (fits : length words ≤ closingPlace) where
-  length-padded : length (padded words) ≡ closingPlace
+  pub length-padded : length (padded words) ≡ closingPlace
   unfolding padded
   length-padded =
       omega (arith, length-append words (replicate (closingPlace - length words) 0), length-replicate {A = ℕ} (closingPlace - length words) 0)
@@ -76,7 +76,7 @@ module _ (words : List ℕ) (fits : length words ≤ closingPlace) where
       ∙ getD-zeros words (closingPlace - length words) k
 
   -- closed words add up to zero
-  pub closed-sound : wordSum (bytesOf (closed (padded words))) ≡ 0
+  pub closed-sound : wordSum blockWords (bytesOf (closed (padded words))) ≡ 0
   unfolding wordSum closing closed
   closed-sound =
       let bytes : List ℕ = bytesOf (closed (padded words)) in
@@ -92,7 +92,7 @@ module _ (words : List ℕ) (fits : length words ≤ closingPlace) where
       omega (arith, total-more closingPlace (wordAt bytes))
 
   -- and no other word closes them
-  pub closing-unique : (block : List ℕ) → ((k : ℕ) → k < closingPlace → getD words k 0 ≡ wordAt block k) → wordSum block ≡ 0
+  pub closing-unique : (block : List ℕ) → ((k : ℕ) → k < closingPlace → getD words k 0 ≡ wordAt block k) → wordSum blockWords block ≡ 0
       → wordAt block closingPlace < wordLimit
       → getD (closed (padded words)) closingPlace 0 ≡ wordAt block closingPlace
   unfolding wordSum closing closed padded

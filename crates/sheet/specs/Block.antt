@@ -38,13 +38,13 @@ unfoldable pub bytesOf : List ℕ → List ℕ
 bytesOf [] = []
 bytesOf (w ∷ ws) = w % 256 ∷ w / 256 ∷ bytesOf ws
 
--- the sum of a block's words, modulo 65,536
-unfoldable pub wordSum : List ℕ → ℕ
-wordSum block = total blockWords (wordAt block) % wordLimit
+-- the sum of a block's first words, modulo 65,536
+unfoldable pub wordSum : ℕ → List ℕ → ℕ
+wordSum count block = total count (wordAt block) % wordLimit
 
 -- a block's check
 unfoldable pub sound : List ℕ → Bool
-sound block = eqb (wordSum block) 0
+sound block = eqb (wordSum blockWords block) 0
 
 -- the word that closes the sum over the words before it
 unfoldable pub closing : List ℕ → ℕ

@@ -35,14 +35,14 @@ pub fn block_at(file: &[u8], place: usize) -> &[u8]
     &file[start..end]
 }
 
-// The sum of a block's words. It wraps.
-fn word_sum(block: &[u8]) -> u16
-    requires { ⌜ length (now block) ≡ blockBytes ⌝ }
-    ensures { λ r. ⌜ r ≡ wordSum (now (block .entry)) ⌝ }
+// The sum of a block's first `count` words. It wraps.
+pub fn word_sum(block: &[u8], count: usize) -> u16
+    requires { ⌜ 2 * count ≤ length (now block) ⌝ }
+    ensures { λ r. ⌜ r ≡ wordSum count (now (block .entry)) ⌝ }
 {
     let mut sum: u16 = 0;
     let mut place: usize = 0;
-    while place < BLOCK_WORDS {
+    while place < count {
         sum = std::num::wrapping_add_u16(sum, word(block, place));
         place += 1;
     }
@@ -54,7 +54,7 @@ pub fn is_sound(block: &[u8]) -> bool
     requires { ⌜ length (now block) ≡ blockBytes ⌝ }
     ensures { λ r. ⌜ r ≡ sound (now (block .entry)) ⌝ }
 {
-    word_sum(block) == 0
+    word_sum(block, BLOCK_WORDS) == 0
 }
 
 // Whether a block's first word is `place`.

@@ -16,11 +16,11 @@ pub const ROW_WORDS: usize = 4;
 
 pub const FIRST_WORD: usize = 2;
 
-const HEADER_MARK: usize = 0;
+pub const HEADER_MARK: usize = 0;
 
-const HEADER_WORDS: usize = 2;
+pub const HEADER_WORDS: usize = 2;
 
-const CLOSING_PLACE: usize = 255;
+pub const CLOSING_PLACE: usize = 255;
 
 // How many blocks a sheet takes.
 pub fn blocks_for(nodes: usize) -> usize

@@ -2,10 +2,10 @@
 // slice and a tape slice.
 ghost use Rattle.sheet.specs.Read.{SheetRead};
 
-mod block;
+pub mod block;
 mod conditions;
 mod header;
-mod layout;
+pub mod layout;
 mod rows;
 
 use conditions::refusal_of;

@@ -2,37 +2,25 @@
 use mathlib.Core.Path.{_≡_, sym, ap, _∙_}
 use mathlib.Core.Logic.{_⊎_, inl, inr, ⊎-elim}
 use mathlib.Core.Bool.{Bool, true, cond}
-use mathlib.Core.List.{List, [], _∷_, _++_}
+use mathlib.Core.List.{List, _++_}
 use Prim.Native.Nat.{ℕ, _*_, _≤_, _<_}
 use native.Mathlib.Omega.{arith}
 use lib.Dec.{ltb}
 use lib.ListN.{length, drop}
 use borrow.Author.Tests.{lt-ltb, le-ltb}
-use Rattle.refusal.specs.First.{_⇐_, first}
 use Rattle.refusal.proofs.After.{after-accepted, after-refused, overwrite-split}
-use Rattle.refusal.proofs.Laws.{first-refused, first-passed, first-none}
 use Rattle.tree.specs.Table.{nodes}
 use Rattle.tree.specs.Forest.{treeOf}
-use Rattle.tree.specs.WellFormed.{tableConditions, tableNumber}
+use Rattle.tree.specs.WellFormed.{tableNumber}
 use Rattle.tree.specs.Operations.{mirror, mirrored, mirrorNumber, Mirror, numberFrom, renumbered, oldNumbers, renumberNumber, Renumber}
 use Rattle.tree.specs.Steps.{Numbered}
 use Rattle.refusal.proofs.Truth.{or-false, or-true}
+use Rattle.tree.proofs.Number.{table-refused, table-passed}
 use Rattle.tree.proofs.Reading.{size-preorder}
 use Rattle.tree.proofs.Stands.{accepted-numbers, accepted-length, accepted-size}
 use Rattle.tree.proofs.TableOf.{length-tableOf}
 use Rattle.tree.proofs.Mirrored.{mirror-numbers}
 use Rattle.tree.proofs.Renumbered.{numberFrom-numbers}
-
--- ---- conditions 1 to 5, and then 7
-
-module _ (t : List ℕ) where
-  seven-refused : (b : Bool) → (tableNumber t ≡ 0 → ⊥) → first (tableConditions t ++ (7 ⇐ b ∷ [])) ≡ tableNumber t
-  unfolding tableNumber
-  seven-refused b h = first-refused (tableConditions t) (7 ⇐ b ∷ []) h
-
-  seven-decides : (b : Bool) → tableNumber t ≡ 0 → first (tableConditions t ++ (7 ⇐ b ∷ [])) ≡ cond b 7 0
-  unfolding tableNumber tableConditions
-  seven-decides b e = first-passed (tableConditions t) (7 ⇐ b ∷ []) (first-none (tableConditions t) (omega arith) e)
 
 -- ---- mirror
 
@@ -42,7 +30,7 @@ module _ (t out : List ℕ) where
 
   pub mirror-refused : (k : ℕ) → k ≡ tableNumber t → (k ≡ 0 → ⊥) → Mirror t out k out
   unfolding mirrorNumber
-  mirror-refused k e d = refused k (seven-refused t _ (λ z. d (e ∙ z)) ∙ sym e) d
+  mirror-refused k e d = refused k (table-refused t _ (λ z. d (e ∙ z)) ∙ sym e) d
 
   module _ (accepted : tableNumber t ≡ 0) where
     mirrored-length : length (mirrored t) ≡ length t
@@ -54,12 +42,12 @@ module _ (t out : List ℕ) where
     pub mirror-short : length out < length t → Mirror t out 7 out
     unfolding mirrorNumber
     mirror-short h =
-        refused 7 (seven-decides t _ accepted ∙ rw (lt-ltb (length out) (2 * nodes t) (omega (arith, accepted-length t accepted)))) (λ e. omega arith)
+        refused 7 (table-passed t _ accepted ∙ rw (lt-ltb (length out) (2 * nodes t) (omega (arith, accepted-length t accepted)))) (λ e. omega arith)
 
     pub mirror-accepted : length t ≤ length out → (new : List ℕ) → new ≡ mirrored t → Mirror t out 0 (new ++ drop (length t) out)
     unfolding mirrorNumber
     mirror-accepted h new e =
-        let number : mirrorNumber t (length out) ≡ 0 = seven-decides t _ accepted ∙ rw (le-ltb (length out) (2 * nodes t) (omega (arith, accepted-length t accepted))) in
+        let number : mirrorNumber t (length out) ≡ 0 = table-passed t _ accepted ∙ rw (le-ltb (length out) (2 * nodes t) (omega (arith, accepted-length t accepted))) in
         record { number = sym number; out = rw (e, after-accepted, overwrite-split (length t) (mirrored t) out mirrored-length) }
 
 -- ---- renumber
@@ -71,7 +59,7 @@ module _ (t out map : List ℕ) where
 
   pub renumber-refused : (k : ℕ) → k ≡ tableNumber t → (k ≡ 0 → ⊥) → Renumber t out map k out map
   unfolding renumberNumber
-  renumber-refused k e d = refused₂ k (seven-refused t _ (λ z. d (e ∙ z)) ∙ sym e) d
+  renumber-refused k e d = refused₂ k (table-refused t _ (λ z. d (e ∙ z)) ∙ sym e) d
 
   module _ (accepted : tableNumber t ≡ 0) where
     renumbered-length : length (renumbered t) ≡ length t
@@ -87,7 +75,7 @@ module _ (t out map : List ℕ) where
     pub renumber-short : (length out < length t) ⊎ (length map < nodes t) → Renumber t out map 7 out map
     unfolding renumberNumber
     renumber-short h =
-        refused₂ 7 (seven-decides t _ accepted ∙ ap (λ (b : Bool). cond b 7 0) (or-true (⊎-elim too-short too-few h))) (λ e. omega arith)
+        refused₂ 7 (table-passed t _ accepted ∙ ap (λ (b : Bool). cond b 7 0) (or-true (⊎-elim too-short too-few h))) (λ e. omega arith)
       where
         too-short : length out < length t → (ltb (length out) (2 * nodes t) ≡ true) ⊎ (ltb (length map) (nodes t) ≡ true)
         too-short h = inl (lt-ltb (length out) (2 * nodes t) (omega (arith, accepted-length t accepted)))
@@ -100,7 +88,7 @@ module _ (t out map : List ℕ) where
     unfolding renumberNumber
     renumber-accepted h i l m N =
         let number : renumberNumber t (length out) (length map) ≡ 0 =
-        seven-decides t _ accepted
+        table-passed t _ accepted
         ∙ ap (λ (b : Bool). cond b 7 0)
         (or-false (le-ltb (length out) (2 * nodes t) (omega (arith, accepted-length t accepted))) (le-ltb (length map) (nodes t) i))
         in

@@ -1,12 +1,14 @@
--- The number of a table: 0 exactly when no condition holds, and else that of the first that does. Assumes nothing.
-use mathlib.Core.Path.{_≡_}
+-- The number of a table: 0 exactly when no condition holds, and else that of the first that does; and what it says of an operation that
+-- tries conditions of its own after the table's. Assumes nothing.
+use mathlib.Core.Path.{_≡_, refl, sym, _∙_}
 use mathlib.Core.Logic.{_↔_, _⊎_, inl, inr, ⊎-elim}
 use mathlib.Core.Bool.{true, false}
-use mathlib.Core.List.{List}
-use Prim.Native.Nat.{ℕ, _%_, _<_, _≤_}
+use mathlib.Core.List.{List, _++_}
+use Prim.Native.Nat.{ℕ, zero, suc, _%_, _<_, _≤_}
 use native.Mathlib.Omega.{arith}
 use lib.ListN.{length}
-use Rattle.refusal.proofs.Laws.{NoneHolds, first-none, none-first}
+use Rattle.refusal.specs.First.{Condition, first}
+use Rattle.refusal.proofs.Laws.{NoneHolds, first-refused, first-passed, first-none, none-first}
 use Rattle.tree.specs.Table.{nodes}
 use Rattle.tree.specs.Forest.{treeOf, size}
 use Rattle.tree.specs.WellFormed.{badLength, badEntry, rootHasSibling, namedTwice, notReached, tableConditions, tableNumber, Passed}
@@ -17,6 +19,23 @@ use Rattle.tree.proofs.Accepted.{linked, good-length, reached-size, siz
 pub accepted : (t : List ℕ) → tableNumber t ≡ 0 ↔ NoneHolds (tableConditions t)
 unfolding tableNumber tableConditions
 accepted t = (first-none (tableConditions t) (omega arith), none-first (tableConditions t))
+
+-- ---- and then an operation's own conditions
+
+module _ (t : List ℕ) (own : List Condition) where
+  pub table-refused : (tableNumber t ≡ 0 → ⊥) → first (tableConditions t ++ own) ≡ tableNumber t
+  unfolding tableNumber
+  table-refused h = first-refused (tableConditions t) own h
+
+  pub table-passed : tableNumber t ≡ 0 → first (tableConditions t ++ own) ≡ first own
+  table-passed e = first-passed (tableConditions t) own (accepted t .0 e)
+
+  pub table-first : first (tableConditions t ++ own) ≡ 0 → tableNumber t ≡ 0
+  table-first e = go (tableNumber t) table-refused
+    where
+      go : (k : ℕ) → ((k ≡ 0 → ⊥) → first (tableConditions t ++ own) ≡ k) → k ≡ 0
+      go zero h = refl
+      go (suc k) h = sym (h (λ z. omega arith)) ∙ e
 
 -- ---- one by one
 

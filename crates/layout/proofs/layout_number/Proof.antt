@@ -10,8 +10,9 @@ use borrow.Author.Tests.{ltb-true, ltb-false}
 use Rattle.tree.specs.WellFormed.{tableNumber}
 use Rattle.tree.proofs.Stands.{accepted-numbers}
 use Rattle.rule.specs.Result.{Slices, badSeparation, shortResults}
+use Rattle.rule.proofs.Separation.{separation-bad, separation-good}
 use Rattle.layout.specs.Operation.{slices}
-use Rattle.layout.proofs.Answers.{separation-bad, separation-good, results-short, results-long, work-short, work-long, number-table, number-6, number-7, number-8, number-0}
+use Rattle.layout.proofs.Answers.{results-short, results-long, work-short, work-long, number-table, number-6, number-7, number-8, number-0}
 use Rattle.layout.proofs.layout_number.Statement.{statement}
 use Rattle.layout.proofs.layout_number.Tie as tie
 

@@ -1,18 +1,18 @@
--- `block::word_sum` gives the wrapping sum of a block. The invariant: the words passed are added up. Assumes nothing.
+-- `block::word_sum` gives the wrapping sum of a block's first words. The invariant: the words passed are added up. Assumes nothing.
 use mathlib.Core.Path.{_≡_, refl, ap, _∙_}
 use Prim.Native.Nat.{ℕ, _-_, _%_, _≤_}
 use native.Mathlib.Omega.{arith}
 use Rattle.sheet.specs.Below.{total}
-use Rattle.sheet.specs.Block.{blockWords, wordLimit, wordAt, wordSum}
+use Rattle.sheet.specs.Block.{wordLimit, wordAt, wordSum}
 use Rattle.sheet.proofs.Below.{total-more}
 use Rattle.sheet.proofs.block.word_sum.Statement.{statement}
 use Rattle.sheet.proofs.block.word_sum.Tie as tie
 
 abbrev Inv-loop : tie.InvT-loop
-Inv-loop block sum₀ place₀ sum place = (place ≤ blockWords) × (sum ≡ total place (wordAt block) % wordLimit)
+Inv-loop block count sum₀ place₀ sum place = (place ≤ count) × (sum ≡ total place (wordAt block) % wordLimit)
 
 abbrev μ-loop : tie.MeasureT-loop
-μ-loop block sum₀ place₀ sum place = blockWords - place
+μ-loop block count sum₀ place₀ sum place = count - place
 
 loop-holds : tie.Need-loop-holds Inv-loop μ-loop
 unfolding total
@@ -36,8 +36,9 @@ loop-again c = (omega arith, rw total-more (omega arith))
 returns : tie.Need-returns Inv-loop μ-loop
 unfolding wordSum
 returns c =
-    let place : c .before .loop .place ≡ blockWords = omega arith in
-    c .before .loop .inv .1 ∙ ap (λ (k : ℕ). total k (wordAt (c .before .before .before .args .block .now)) % wordLimit) place
+    let a = c .before .before .before .args in
+    let place : c .before .loop .place ≡ a .count = omega arith in
+    c .before .loop .inv .1 ∙ ap (λ (k : ℕ). total k (wordAt (a .block .now)) % wordLimit) place
 
 pub word-sum-spec : {M : Type 1} → statement M
 word-sum-spec =
