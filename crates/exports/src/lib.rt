@@ -4,6 +4,7 @@ ghost use Rattle.tree.specs.Operations.{CheckTable, Mirror, Renumber};
 ghost use Rattle.sheet.specs.Read.{SheetRead};
 ghost use Rattle.rule.specs.Result.{Layout};
 ghost use Rattle.layout.specs.Operation.{slices, answer};
+ghost use Rattle.writer.specs.Write.{SheetWritten};
 ghost use Rattle.render.specs.Text.{SheetListed};
 
 #[no_mangle]
@@ -70,6 +71,21 @@ pub extern "C" fn hiwenoka_read_sheet(
     *nodes = sheet.nodes;
     *separation = sheet.separation;
     sheet.number
+}
+
+#[no_mangle]
+pub extern "C" fn hiwenoka_write_sheet(
+    table: &[u16],
+    separation: u16,
+    tapes: &[u16],
+    out: &mut [u8],
+    bytes: &mut u16,
+) -> u16
+    ensures { λ r. ⌜ SheetWritten (now (table .entry)) separation (now (tapes .entry)) (now (out .entry)) (record { number = r; bytes = now (bytes .exit) }) (now (out .exit)) ⌝ }
+{
+    let written = writer::write_sheet(table, separation, tapes, out);
+    *bytes = written.bytes;
+    written.number
 }
 
 #[no_mangle]

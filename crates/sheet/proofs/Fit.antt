@@ -1,4 +1,4 @@
--- The file of a sheet is made of bytes. Assumes nothing.
+-- The file of a sheet whose entries are words is made of bytes. Assumes nothing.
 use Prim.Native.Nat.{ℕ, zero, suc, _+_, _-_, _*_, _<_}
 use native.Mathlib.Nat.{le-refl}
 use native.Mathlib.Omega.{arith}
@@ -40,13 +40,14 @@ bytes-below (w ∷ ws) h zero = omega arith
 bytes-below (w ∷ ws) h (suc zero) = omega (arith, h 0)
 bytes-below (w ∷ ws) h (suc (suc i)) = bytes-below ws (λ k. h (suc k)) i
 
-module _ (n separation : ℕ) (table tapes : List ℕ) (held : Contents n separation table tapes) where
+module _ (n separation : ℕ) (table tapes : List ℕ) (held : Contents n separation table tapes) (table-words : EachBelow wordLimit table)
+    (tapes-words : EachBelow wordLimit tapes) where
   row-below : (r : ℕ) → EachBelow wordLimit (row table tapes r)
   unfolding row
-  row-below r zero = held .table-words (2 * r)
-  row-below r (suc zero) = held .table-words (2 * r + 1)
-  row-below r (suc (suc zero)) = held .tapes-words (2 * r)
-  row-below r (suc (suc (suc zero))) = held .tapes-words (2 * r + 1)
+  row-below r zero = table-words (2 * r)
+  row-below r (suc zero) = table-words (2 * r + 1)
+  row-below r (suc (suc zero)) = tapes-words (2 * r)
+  row-below r (suc (suc (suc zero))) = tapes-words (2 * r + 1)
   row-below r (suc (suc (suc (suc i)))) = omega arith
 
   content-below : (b : ℕ) → EachBelow wordLimit (content n separation table tapes b)

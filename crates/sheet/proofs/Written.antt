@@ -1,17 +1,18 @@
 -- The blocks of a sheet's file, as the reader sees them: sound, in their places, laid out right, with every row where the layout
--- has it. Assumes nothing.
-use mathlib.Core.Path.{_≡_, refl, ap, ap₂, _∙_}
+-- has it; and that the file tells nothing of tapes past two entries a node. Assumes nothing.
+use mathlib.Core.Path.{_≡_, refl, sym, ap, ap₂, _∙_}
 use Prim.Native.Nat.{ℕ, zero, suc, _+_, _*_, _/_, _%_, _≤_, _<_}
 use native.Mathlib.Omega.{arith}
 use mathlib.Core.Bool.{true}
 use mathlib.Core.List.{List, [], _∷_}
-use lib.ListN.{length, getD, List·getD-eq-default}
+use lib.ListN.{length, getD, take, List·getD-eq-default}
+use lib.Seq.{getD-take}
 use borrow.Author.Tests.{eq-eqb}
 use Rattle.sheet.specs.Block.{blockBytes, closingPlace, wordAt, bytesOf, blockAt, sound, inPlace}
 use Rattle.sheet.specs.Layout.{blockRows, rowWords, blocksFor, nodeBlock, nodeWord, rowsIn, countWord, usedWords, fixedHold, laidOut}
 use Rattle.sheet.specs.Read.{nodePair}
-use Rattle.sheet.specs.File.{row, content, blockOf, fileOf}
-use Rattle.sheet.proofs.Below.{split, every-holds, length-joined, joined-at, getD-joined}
+use Rattle.sheet.specs.File.{row, content, padded, closed, blockOf, fileOf}
+use Rattle.sheet.proofs.Below.{split, every-holds, joined-cong, length-joined, joined-at, getD-joined}
 use Rattle.sheet.proofs.Fixed.{used-agrees, unused}
 use Rattle.sheet.proofs.Words.{length-bytes, word-bytes, length-closed, getD-closed, closed-sound}
 
@@ -99,3 +100,21 @@ module _ (n separation : ℕ) (table tapes : List ℕ) where
   pub tape-read : (r : ℕ) → r < n → nodePair file 2 r ≡ getD tapes (2 * r) 0 ∷ getD tapes (2 * r + 1) 0 ∷ []
   unfolding row
   tape-read r node = ap₂ (λ (x y : ℕ). x ∷ y ∷ []) (row-read r 2 node (omega arith) _ refl) (row-read r 3 node (omega arith) _ (omega arith))
+
+  -- of the tapes only two entries a node are looked at
+  tape-unseen : (r : ℕ) → r < n → row table tapes r ≡ row table (take (2 * n) tapes) r
+  unfolding row
+  tape-unseen r node =
+      ap₂ (λ (low high : ℕ). getD table (2 * r) 0 ∷ getD table (2 * r + 1) 0 ∷ low ∷ high ∷ []) (sym (getD-take (2 * n) tapes (2 * r) 0 (omega arith)))
+      (sym (getD-take (2 * n) tapes (2 * r + 1) 0 (omega arith)))
+
+  content-unseen : (b : ℕ) → content n separation table tapes b ≡ content n separation table (take (2 * n) tapes) b
+  unfolding content
+  content-unseen zero = refl
+  content-unseen (suc b) =
+      joined-cong (rowsIn n b) _ _ (λ i l. let node : blockRows * b + i < n = omega arith in tape-unseen (blockRows * b + i) node)
+
+  pub tapes-unseen : file ≡ fileOf n separation table (take (2 * n) tapes)
+  unfolding fileOf blockOf
+  tapes-unseen =
+      joined-cong (blocksFor n) _ _ (λ b l. ap (λ (used : List ℕ). bytesOf (closed (padded (b ∷ countWord n b ∷ used)))) (content-unseen b))

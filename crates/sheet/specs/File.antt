@@ -4,7 +4,7 @@ use Prim.Native.Nat.{ℕ, zero, suc, _+_, _-_, _*_, _≤_, _<_}
 use mathlib.Core.List.{List, [], _∷_, _++_}
 use lib.ListN.{length, getD, replicate}
 use Rattle.sheet.specs.Below.{joined}
-use Rattle.sheet.specs.Block.{wordLimit, closingPlace, bytesOf, closing}
+use Rattle.sheet.specs.Block.{closingPlace, bytesOf, closing}
 use Rattle.sheet.specs.Layout.{mostNodes, mostSeparation, blockRows, blocksFor, rowsIn, countWord}
 use Rattle.sheet.specs.Read.{nodesOf, separationOf, tableOf, tapesOf, refusal}
 
@@ -37,7 +37,7 @@ fileOf n separation table tapes = joined (blocksFor n) (λ b. bytesOf (blockOf n
 abbrev pub EachBelow : ℕ → List ℕ → Type 0
 EachBelow m entries = (i : ℕ) → getD entries i 0 < m
 
--- what a file can hold: n and D in range, and two 16-bit entries a node in the table and in the tape slice
+-- what a file can hold: n and D in range, and two entries a node in the table and in the tape slice
 pub record Contents (n separation : ℕ) (table tapes : List ℕ) : Type 0 where
   pub nodes-least : 1 ≤ n
   pub nodes-most : n ≤ mostNodes
@@ -45,8 +45,6 @@ pub record Contents (n separation : ℕ) (table tapes : List ℕ) : Type 0 where
   pub separation-most : separation ≤ mostSeparation
   pub table-size : length table ≡ 2 * n
   pub tapes-size : length tapes ≡ 2 * n
-  pub table-words : EachBelow wordLimit table
-  pub tapes-words : EachBelow wordLimit tapes
 
 -- reading the file, into slices of these lengths, is accepted and gives the contents back
 pub record ReadBack (n separation : ℕ) (table tapes : List ℕ) (tableLength tapesLength : ℕ) : Type 0 where

@@ -1,0 +1,78 @@
+-- The answers of the writer: its number, what a refusal gives, and what an acceptance gives. Assumes nothing.
+use mathlib.Core.Path.{_≡_, sym, _∙_}
+use mathlib.Core.Bool.{true, false}
+use mathlib.Core.List.{List}
+use Prim.Native.Nat.{ℕ, _*_, _≤_, _<_}
+use native.Mathlib.Omega.{arith}
+use lib.ListN.{length}
+use borrow.Author.Tests.{ltb-false, lt-ltb, le-ltb}
+use Rattle.refusal.specs.First.{first}
+use Rattle.refusal.specs.After.{overwrite}
+use Rattle.refusal.proofs.After.{granted-accepted, granted-refused, after-accepted, after-refused}
+use Rattle.refusal.proofs.Laws.{first-none}
+use Rattle.tree.specs.Table.{nodes}
+use Rattle.tree.specs.WellFormed.{tableNumber}
+use Rattle.tree.proofs.Number.{table-refused, table-passed, table-first}
+use Rattle.rule.specs.Result.{badSeparation}
+use Rattle.rule.proofs.Separation.{good-separation}
+use Rattle.writer.specs.Write.{sheetFile, ownConditions, writeNumber, SheetWritten}
+
+module _ (table : List ℕ) (D : ℕ) (tapes out : List ℕ) where
+  -- ---- the number
+
+  pub number-table : (k : ℕ) → k ≡ tableNumber table → (k ≡ 0 → ⊥) → k ≡ writeNumber table D tapes out
+  unfolding writeNumber
+  number-table k e d = e ∙ sym (table-refused table (ownConditions table D tapes out) (λ z. d (e ∙ z)))
+
+  number-later : tableNumber table ≡ 0 → writeNumber table D tapes out ≡ first (ownConditions table D tapes out)
+  unfolding writeNumber
+  number-later e = table-passed table (ownConditions table D tapes out) e
+
+  module _ (accepted : tableNumber table ≡ 0) where
+    pub number-6 : badSeparation D ≡ true → 6 ≡ writeNumber table D tapes out
+    number-6 a = sym (number-later accepted ∙ simp a)
+
+    module _ (separated : badSeparation D ≡ false) where
+      pub number-13 : length tapes < 2 * nodes table → 13 ≡ writeNumber table D tapes out
+      number-13 h = sym (number-later accepted ∙ simp (separated, lt-ltb _ _ h))
+
+      pub number-7 : 2 * nodes table ≤ length tapes → length out < length (sheetFile table D tapes) → 7 ≡ writeNumber table D tapes out
+      number-7 h k = sym (number-later accepted ∙ simp (separated, le-ltb _ _ h, lt-ltb _ _ k))
+
+      pub number-0 : 2 * nodes table ≤ length tapes → length (sheetFile table D tapes) ≤ length out → 0 ≡ writeNumber table D tapes out
+      number-0 h k = sym (number-later accepted ∙ simp (separated, le-ltb _ _ h, le-ltb _ _ k))
+
+  -- where the number is 0
+  pub record Taken : Type 0 where
+    pub table-accepted : tableNumber table ≡ 0
+    pub some : 1 ≤ D
+    pub small : D ≤ 1024
+    pub tapes-room : 2 * nodes table ≤ length tapes
+    pub out-room : length (sheetFile table D tapes) ≤ length out
+
+  pub taken : writeNumber table D tapes out ≡ 0 → Taken
+  unfolding writeNumber
+  taken e =
+      let accepted = table-first table (ownConditions table D tapes out) e in
+      let h = first-none (ownConditions table D tapes out) (omega arith) (sym (number-later accepted) ∙ e) in
+      let range = good-separation D (h .0) in
+      record {
+        table-accepted = accepted;
+        some = range .0;
+        small = range .1;
+        tapes-room = ltb-false _ _ (h .1 .0);
+        out-room = ltb-false _ _ (h .1 .1 .0);
+      }
+
+  -- ---- the answer
+
+  pub written-refused : (k : ℕ) → k ≡ writeNumber table D tapes out → (k ≡ 0 → ⊥) → SheetWritten table D tapes out (record { number = k; bytes = 0 }) out
+  written-refused k e d =
+      let refused : writeNumber table D tapes out ≡ 0 → ⊥ = λ z. d (e ∙ z) in
+      record { number = e; bytes = rw granted-refused; out-after = rw after-refused }
+
+  pub written-accepted : (bytes : ℕ) (out′ : List ℕ) → writeNumber table D tapes out ≡ 0 → bytes ≡ length (sheetFile table D tapes)
+      → out′ ≡ overwrite (sheetFile table D tapes) out
+      → SheetWritten table D tapes out (record { number = 0; bytes = bytes }) out′
+  written-accepted bytes out′ e isBytes isOut =
+      record { number = sym e; bytes = rw granted-accepted isBytes; out-after = rw after-accepted isOut }

@@ -1,0 +1,67 @@
+-- The blocks of a file, written one after the other. Assumes nothing.
+use mathlib.Core.Path.{_≡_, refl, sym, ap, _∙_}
+use Prim.Native.Nat.{ℕ, _+_, _-_, _*_, _≤_}
+use native.Mathlib.Nat.{le-refl}
+use native.Mathlib.Numerals.{add-one}
+use native.Mathlib.Omega.{arith}
+use mathlib.Core.List.{List, [], _∷_}
+use lib.ListN.{length}
+use borrow.Rule.Slice.PartMut.{midOf, putMid}
+use Rattle.refusal.specs.After.{overwrite}
+use Rattle.refusal.proofs.After.{length-overwrite, overwrite-again}
+use Rattle.sheet.specs.Below.{joined}
+use Rattle.sheet.specs.Block.{blockBytes, bytesOf}
+use Rattle.sheet.specs.Layout.{headerMark, blockRows, blocksFor, rowsIn, countWord}
+use Rattle.sheet.specs.File.{content, blockOf, fileOf}
+use Rattle.sheet.proofs.Below.{joined-more, length-joined}
+use Rattle.sheet.proofs.Walk.{overwrite-more}
+use Rattle.sheet.proofs.Written.{block-size}
+use Rattle.writer.specs.Steps.{rowsFrom, blockOver}
+
+module _ (n D : ℕ) (table tapes : List ℕ) where
+  -- the first blocks of the file
+  abbrev pub front : ℕ → List ℕ
+  front count = joined count (λ b. bytesOf (blockOf n D table tapes b))
+
+  pub length-front : (count : ℕ) → length (front count) ≡ blockBytes * count
+  length-front count = length-joined blockBytes (λ b. bytesOf (blockOf n D table tapes b)) (block-size n D table tapes) count
+
+  -- the output keeps its length while blocks are written to it
+  pub length-written : (count : ℕ) (old : List ℕ) → blockBytes * count ≤ length old → length (overwrite (front count) old) ≡ length old
+  length-written count old room = length-overwrite (front count) old (omega (arith, length-front count))
+
+  header-first : (old : List ℕ) → blockOver (0 ∷ headerMark ∷ n ∷ D ∷ []) old ≡ overwrite (front 1) old
+  unfolding blockOver joined blockOf countWord content
+  header-first old = refl
+
+  -- the block of rows after block b
+  block-next : (b : ℕ) (old : List ℕ) → blockOver ((b + 1) ∷ rowsIn n b ∷ rowsFrom table tapes (blockRows * b) (rowsIn n b)) old
+      ≡ overwrite (bytesOf (blockOf n D table tapes (b + 1))) old
+  unfolding blockOver blockOf countWord content
+  block-next b old = rw (add-one b)
+
+  pub block-more : (b rows first start : ℕ) (old current last : List ℕ) → rows ≡ rowsIn n b → first ≡ blockRows * b → start ≡ blockBytes * (b + 1)
+      → start ≤ length old
+      → current ≡ overwrite (front (b + 1)) old
+      → last ≡ blockOver ((b + 1) ∷ rows ∷ rowsFrom table tapes first rows) (midOf start (length current - start) current)
+      → putMid start (length current - start) current last ≡ overwrite (front (b + 1 + 1)) old
+  block-more b rows first start old current last isRows isFirst isStart room isCurrent isLast =
+      overwrite-more (front (b + 1)) (bytesOf (blockOf n D table tapes (b + 1))) old current last start (length-front (b + 1) ∙ sym isStart) room isCurrent
+      (isLast ∙ rw (isRows, isFirst) (block-next b _))
+      ∙ ap (λ (new : List ℕ). overwrite new old) (sym (joined-more (b + 1) (λ k. bytesOf (blockOf n D table tapes k))))
+
+  -- the loop begins with the header written, and ends with all blocks
+  pub blocks-begun : (old first : List ℕ) → first ≡ blockOver (0 ∷ headerMark ∷ n ∷ D ∷ []) old → first ≡ overwrite (front 1) first
+  blocks-begun old first isFirst =
+      let header = isFirst ∙ header-first old in
+      header ∙ sym (ap (overwrite (front 1)) header ∙ overwrite-again (front 1) (front 1) old (le-refl (length (front 1))))
+
+  pub blocks-ended : (count : ℕ) (old first current : List ℕ) → count ≡ blocksFor n → first ≡ blockOver (0 ∷ headerMark ∷ n ∷ D ∷ []) old
+      → current ≡ overwrite (front count) first
+      → current ≡ overwrite (fileOf n D table tapes) old
+  unfolding fileOf
+  blocks-ended count old first current all isFirst isCurrent =
+      isCurrent
+      ∙ ap (overwrite (front count)) (isFirst ∙ header-first old)
+      ∙ overwrite-again (front count) (front 1) old (omega (arith, length-front 1, length-front count))
+      ∙ ap (λ (k : ℕ). overwrite (front k) old) all

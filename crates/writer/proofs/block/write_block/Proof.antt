@@ -1,0 +1,59 @@
+-- `block::write_block` writes a block of rows. Assumes nothing.
+use mathlib.Core.Path.{refl}
+use mathlib.Core.List.{[], _∷_}
+use native.Mathlib.Omega.{arith}
+use Rattle.sheet.specs.Layout.{rowWord}
+use Rattle.writer.specs.Steps.{rowsFrom}
+use Rattle.writer.proofs.Stored.{stored-next}
+use Rattle.writer.proofs.Rows.{length-rows}
+use Rattle.writer.proofs.Closed.{block-written}
+use borrow.Author.Needs.{needs}
+use Rattle.writer.proofs.block.write_block.Statement.{statement}
+use Rattle.writer.proofs.block.write_block.Tie as tie
+
+put-head-requires : tie.Need-put-head-requires
+put-head-requires c κs = search needs
+
+put-rows-requires : tie.Need-put-rows-requires
+put-rows-requires c κs = search needs
+
+mul-put-zeros : tie.Need-mul-put-zeros
+mul-put-zeros c = search needs
+
+add-put-zeros : tie.Need-add-put-zeros
+add-put-zeros c = search needs
+
+put-zeros-requires : tie.Need-put-zeros-requires
+put-zeros-requires c κs = search needs
+
+close-requires : tie.Need-close-requires
+close-requires c κs = search needs
+
+same-length : tie.Need-same-length
+same-length c = search needs
+
+returns : tie.Need-returns
+returns c =
+    let closed = c .before .before in
+    let zeros = closed .before .before .before .before in
+    let stored = zeros .before .before .before .before in
+    let head = stored .before .before .before .before in
+    let a = head .before .before .before .before .before .args in
+    let rows = rowsFrom (a .table .now) (a .tapes .now) (a .first) (a .rows) in
+    let size = length-rows (a .table .now) (a .tapes .now) (a .first) (a .rows) in
+    let words = stored-next (a .block .now) 0 (a .place ∷ a .rows ∷ []) rows _ _ 2 refl (head .put-head .ensures) (stored .put-rows .ensures) in
+    block-written (a .place ∷ a .rows ∷ rows) (a .block .now) _ _ _ (rowWord (a .rows)) (omega arith) (omega arith) (omega arith) words
+    (zeros .put-zeros .ensures) (closed .close .ensures)
+
+pub write-block-spec : {M : Type 1} → statement M
+write-block-spec =
+    tie.close
+    (tie.spec
+    put-head-requires
+    put-rows-requires
+    mul-put-zeros
+    add-put-zeros
+    put-zeros-requires
+    close-requires
+    same-length
+    returns)

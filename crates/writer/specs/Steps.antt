@@ -1,0 +1,44 @@
+-- What the writer's inner steps promise.
+use Prim.Native.Nat.{ℕ, _+_, _-_, _*_, _%_}
+use mathlib.Core.Path.{_≡_}
+use mathlib.Core.List.{List, [], _∷_}
+use lib.ListN.{length, getD, replicate}
+use lib.Seq.{sets}
+use Rattle.refusal.specs.After.{overwrite}
+use Rattle.sheet.specs.Below.{joined}
+use Rattle.sheet.specs.Block.{wordLimit, closingPlace, bytesOf, wordSum}
+use Rattle.sheet.specs.File.{row, padded, closed}
+use Rattle.writer.specs.Write.{sheetFile}
+
+-- a block after words are stored in it, from word k on
+unfoldable pub storeWords : List ℕ → ℕ → List ℕ → List ℕ
+storeWords block k words = sets block (2 * k) (bytesOf words)
+
+-- the pair of entries numbered r
+abbrev pub pairOf : List ℕ → ℕ → List ℕ
+pairOf entries r = getD entries (2 * r) 0 ∷ getD entries (2 * r + 1) 0 ∷ []
+
+-- the rows of nodes, from node `first` on
+abbrev pub rowsFrom : List ℕ → List ℕ → ℕ → ℕ → List ℕ
+rowsFrom table tapes first rows = joined rows (λ i. row table tapes (first + i))
+
+-- a block with 0 in its words from `used` on, up to the closing word
+abbrev pub zeroed : ℕ → List ℕ → List ℕ
+zeroed used block = storeWords block used (replicate (closingPlace - used) 0)
+
+-- the word that closes a block's sum
+abbrev pub closingWord : List ℕ → ℕ
+closingWord block = (wordLimit - wordSum closingPlace block) % wordLimit
+
+-- a block closed
+unfoldable pub closeBlock : List ℕ → List ℕ
+closeBlock block = storeWords block closingPlace (closingWord block ∷ [])
+
+-- a slice with a block at its start that uses these words
+unfoldable pub blockOver : List ℕ → List ℕ → List ℕ
+blockOver words old = overwrite (bytesOf (closed (padded words))) old
+
+-- the file of a sheet at the start of the output, and its length
+pub record FileWritten (table : List ℕ) (separation : ℕ) (tapes out : List ℕ) (bytes : ℕ) (out′ : List ℕ) : Type 0 where
+  pub count : bytes ≡ length (sheetFile table separation tapes)
+  pub out-after : out′ ≡ overwrite (sheetFile table separation tapes) out

@@ -1,0 +1,84 @@
+// The writer of sheet files. The table, D and the slices are judged by the conditions 1 to 5, 6, 13 and 7; then the file is written block
+// by block.
+ghost use mathlib.Core.Path.{_≡_};
+ghost use Prim.Native.Nat.{_*_, _≤_};
+ghost use lib.ListN.{length};
+ghost use Rattle.tree.specs.Table.{nodes};
+ghost use Rattle.tree.specs.WellFormed.{tableNumber};
+ghost use Rattle.writer.specs.Write.{sheetFile, writeNumber, SheetWritten};
+ghost use Rattle.writer.specs.Steps.{FileWritten};
+
+mod block;
+
+use block::write_block;
+use block::write_header;
+use sheet::block::BLOCK_BYTES;
+use sheet::layout::blocks_for;
+use sheet::layout::rows_in;
+
+// What writing a sheet gives: 0 with the count of bytes written, or the number of a refusal with 0.
+pub struct Written {
+    pub number: u16,
+    pub bytes: u16,
+}
+
+// The number of the first condition that holds, or 0.
+fn write_number(table: &[u16], separation: u16, tapes: &[u16], out: &[u8]) -> u16
+    ensures { λ r. ⌜ r ≡ writeNumber (now (table .entry)) separation (now (tapes .entry)) (now (out .entry)) ⌝ }
+{
+    let checked = tree::check_table(table);
+    let number = checked.number;
+    if number != 0 {
+        return number;
+    }
+    if separation < 1 || 1024 < separation {
+        return 6;
+    }
+    let n = table.len() / 2;
+    if tapes.len() < 2 * n {
+        return 13;
+    }
+    if out.len() < BLOCK_BYTES * blocks_for(n) {
+        return 7;
+    }
+    0
+}
+
+// Writes the file of a sheet that is accepted, and says how many bytes it has. `start` is the first byte of the block after block `place`,
+// and `first` its first node.
+fn write_blocks(table: &[u16], separation: u16, tapes: &[u16], out: &mut [u8]) -> usize
+    requires { ⌜ tableNumber (now table) ≡ 0 ⌝ }
+    requires { ⌜ 2 * nodes (now table) ≤ length (now tapes) ⌝ }
+    requires { ⌜ length (sheetFile (now table) separation (now tapes)) ≤ length (now out) ⌝ }
+    ensures { λ r. ⌜ FileWritten (now (table .entry)) separation (now (tapes .entry)) (now (out .entry)) r (now (out .exit)) ⌝ }
+{
+    let n = table.len() / 2;
+    write_header(out, n, separation);
+    let mut place: usize = 0;
+    let mut first: usize = 0;
+    let mut start = BLOCK_BYTES;
+    while first < n {
+        let rows = rows_in(n, place);
+        place += 1;
+        write_block(&mut out[start..], place, table, tapes, first, rows);
+        first += rows;
+        start += BLOCK_BYTES;
+    }
+    start
+}
+
+// Writes a sheet. Where it is accepted, its file stands at the start of `out`, and bytes past it are untouched; entries of `tapes` past
+// two a node are not looked at. A refusal changes nothing.
+pub fn write_sheet(table: &[u16], separation: u16, tapes: &[u16], out: &mut [u8]) -> Written
+    ensures { λ r. ⌜ SheetWritten (now (table .entry)) separation (now (tapes .entry)) (now (out .entry)) r (now (out .exit)) ⌝ }
+{
+    let number = write_number(table, separation, tapes, out);
+    if number != 0 {
+        return Written { number, bytes: 0 };
+    }
+    let bytes = write_blocks(table, separation, tapes, out);
+    Written {
+        number: 0,
+        bytes: bytes as u16,
+    }
+}
