@@ -86,7 +86,7 @@ unsigned sheet_number(const uint8_t *file, size_t bytes, size_t table_len, size_
     if (nodes < 1 || nodes > 1024 || separation < 1 || separation > 1024) {
         return 12;
     }
-    if (blocks != 1 + (nodes + BLOCK_ROWS - 1) / BLOCK_ROWS) {
+    if (blocks != block_count(nodes)) {
         return 12;
     }
     for (size_t block = 0; block < blocks; block++) {
@@ -97,4 +97,15 @@ unsigned sheet_number(const uint8_t *file, size_t bytes, size_t table_len, size_
         }
     }
     return table_len < 2 * nodes || tapes_len < 2 * nodes ? 7 : 0;
+}
+
+unsigned write_number(const uint16_t *table, size_t len, uint16_t separation, size_t tapes_len,
+                      size_t out_len)
+{
+    unsigned number = table_number(table, len);
+    return number != 0                                    ? number
+           : separation < 1 || separation > 1024          ? 6
+           : tapes_len < len                              ? 13
+           : out_len < BLOCK_BYTES * block_count(len / 2) ? 7
+                                                          : 0;
 }

@@ -12,6 +12,10 @@ unsigned table_number(const uint16_t *table, size_t len);
 /* The first of 9 to 12 and 7 that holds, or 0. */
 unsigned sheet_number(const uint8_t *file, size_t bytes, size_t table_len, size_t tapes_len);
 
+/* The first of 1 to 6, 13 and 7 that holds of a sheet to be written, or 0. */
+unsigned write_number(const uint16_t *table, size_t len, uint16_t separation, size_t tapes_len,
+                      size_t out_len);
+
 /* The nodes of a well-formed table, parent first, then the children's subtrees left to right. */
 void number_parents_first(const uint16_t *table, uint16_t *order);
 

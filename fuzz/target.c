@@ -2,10 +2,11 @@
  * Takes an input as one call of the library, makes the call on slices of exactly their lengths
  * beside pages that cannot be accessed, and holds all that came of it against the paper. An input:
  *
- *     byte 0         the operation, modulo 6
+ *     byte 0         the operation, modulo 7
  *     byte 1         what is done to the rest, see the bits below
  *     bytes 2, 3     the separation, low byte first, as are all words
- *     bytes 4 to 7   for each slice that is written, how many entries more than needed, signed
+ *     bytes 4 to 7   for each slice besides the table or file, how many entries more than needed,
+ *                    signed
  *     bytes 8 to 11  where a damage goes, and its word
  *     the rest       a table's words, or a file's bytes; or, with TREE, one byte for each node
  *                    after the root, which says how far it hangs above the node before it
@@ -101,9 +102,10 @@ static size_t file_of(const struct input *input, uint8_t *file)
 {
     size_t bytes = at_most(input->rest_len, MOST_FILE + BLOCK_BYTES);
     if (input->bits & TREE) {
-        uint16_t table[2 * MOST_NODES + 2];
+        uint16_t table[2 * MOST_NODES + 2], tapes[2 * MOST_NODES];
         size_t nodes = at_most(tree_of(input, table) / 2, MOST_NODES);
-        bytes = make_sheet(file, table, nodes, input->separation);
+        make_tapes(tapes, 2 * nodes);
+        bytes = make_sheet(file, table, tapes, nodes, input->separation);
     } else {
         memcpy(file, input->rest, bytes);
     }
@@ -251,6 +253,25 @@ static void layout(const struct input *input, const uint16_t *entries, size_t le
     expect(*(int32_t *)greatest.start == drawing.greatest, "the greatest place");
 }
 
+static void write_sheet(const struct input *input, const uint16_t *entries, size_t len)
+{
+    static uint16_t words[2 * MOST_NODES + 2 + INT8_MAX];
+    static uint8_t file[MOST_FILE];
+    size_t n = at_most(len / 2, MOST_NODES + 1), tapes_len = length(input, 0, 2 * n);
+    size_t out_len = length(input, 1, BLOCK_BYTES * block_count(n));
+    make_tapes(words, tapes_len);
+    struct lent table = lend_input(entries, 2 * len), tapes = lend_input(words, 2 * tapes_len);
+    struct lent out = lend_output(out_len), bytes = lend_output(2);
+    unsigned number = hiwenoka_write_sheet(table.start, len, input->separation, tapes.start,
+                                           tapes_len, out.start, out_len, bytes.start);
+    unsigned wanted = write_number(entries, len, input->separation, tapes_len, out_len);
+    expect_number(&table, number, wanted);
+    expect_written(&tapes, 0);
+    size_t written = number == 0 ? make_sheet(file, entries, words, n, input->separation) : 0;
+    expect_word(&bytes, written);
+    expect_bytes(&out, file, written);
+}
+
 /* The table and the tape numbers of a file's first rows. */
 static void rows_of(const uint8_t *file, size_t nodes, uint16_t *table, uint16_t *tapes)
 {
@@ -312,8 +333,7 @@ static void list_sheet(const struct input *input, const uint8_t *bytes, size_t l
     size_t written = hiwenoka_list_sheet(file.start, len, out.start, out_len);
     size_t wanted = out_len < HIWENOKA_TEXT_ROOM ? 0 : (size_t)print_plainly(bytes, len, text);
     expect(written == wanted, "the text is as long as that of the paper");
-    expect(memcmp(out.start, text, wanted) == 0, "the text is that of the paper");
-    expect_written(&out, wanted);
+    expect_bytes(&out, text, wanted);
     expect_written(&file, 0);
 }
 
@@ -344,8 +364,8 @@ int LLVMFuzzerTestOneInput(const uint8_t *data, size_t size)
     /* What the slices hold, and a sheet's tapes, hang on the input alone. */
     seed_random(input.separation + 65536 * (uint64_t)size);
     take_back(input.bits & AFTER_GUARD ? AT_START : AT_END);
-    unsigned operation = data[0] % 6;
-    size_t len = operation >= 4 ? file_of(&input, file) : table_of(&input, table);
+    unsigned operation = data[0] % 7;
+    size_t len = operation >= 5 ? file_of(&input, file) : table_of(&input, table);
     switch (operation) {
     case 0:
         check_table(table, len);
@@ -360,9 +380,12 @@ int LLVMFuzzerTestOneInput(const uint8_t *data, size_t size)
         layout(&input, table, len);
         break;
     case 4:
-        read_sheet(&input, file, len);
+        write_sheet(&input, table, len);
         break;
     case 5:
+        read_sheet(&input, file, len);
+        break;
+    case 6:
         list_sheet(&input, file, len);
         break;
     }

@@ -24,6 +24,7 @@
  *   11  a block's first word is not its place, counted from 0
  *   12  n or D is not in 1 to 1024, the file's length is not that of n, or a word that the file's
  *       layout fixes differs
+ *   13  the slice of tape numbers is too short
  */
 
 #ifndef HIWENOKA_H
@@ -82,6 +83,16 @@ uint16_t hiwenoka_read_sheet(const uint8_t *file, size_t file_len,
                              uint16_t *table, size_t table_len,
                              uint16_t *tapes, size_t tapes_len,
                              uint16_t *nodes, uint16_t *separation);
+
+/*
+ * Writes a sheet file: 0 to 5; 6; 13 if tapes has fewer than 2n entries; 7 if out has fewer bytes
+ * than the file: 512, and 512 more for each 63 nodes or part of 63, at most 9216. tapes has each
+ * node's tape number, low word then high word, in its first 2n entries; those past them are not
+ * looked at. Writes the file to the start of out and its length to bytes.
+ */
+uint16_t hiwenoka_write_sheet(const uint16_t *table, size_t table_len, uint16_t separation,
+                              const uint16_t *tapes, size_t tapes_len,
+                              uint8_t *out, size_t out_len, uint16_t *bytes);
 
 /* The bytes of out with which hiwenoka_list_sheet can print any sheet. */
 #define HIWENOKA_TEXT_ROOM 41024

@@ -1,10 +1,11 @@
 #!/usr/bin/env bash
 # Counts instructions by callgrind: a node for the table operations, for the layout and for the
-# published pointer method (its baseline, which does not check the table), a byte for the sheet
-# reader. Only the calls themselves count. The part `time` takes the time of a layout beside the
-# pointer method's and, where Debian's node-d3-hierarchy is installed, that of d3's tree. The part
-# `listing` does both for the whole way from a sheet's bytes to its listing; it needs the program
-# `listing` too, from ../target/bin or the folder that HIWENOKA_BIN_DIR names.
+# published pointer method (its baseline, which does not check the table), a byte for reading and
+# for writing a sheet file (a write checks the table too). Only the calls themselves count. The part
+# `time` takes the time of a layout beside the pointer method's and, where Debian's
+# node-d3-hierarchy is installed, that of d3's tree. The part `listing` does both for the whole way
+# from a sheet's bytes to its listing; it needs the program `listing` too, from ../target/bin or the
+# folder that HIWENOKA_BIN_DIR names.
 #
 # Usage: bench.sh [table] [sheet] [layout] [time] [listing]; all five if none is named.
 set -euo pipefail
@@ -139,8 +140,11 @@ for part in "$@"; do
         ;;
     sheet)
         build bench_sheet
-        measure bench_sheet hiwenoka_read_sheet |
-            report "Sheet reader: instructions a byte, by count of blocks"
+        {
+            measure bench_sheet hiwenoka_read_sheet read
+            measure bench_sheet hiwenoka_write_sheet write
+            measure bench_sheet hiwenoka_check_table check
+        } | report "Sheet files, and the table check in a write: instructions a byte, by count of blocks"
         ;;
     layout)
         build bench_layout

@@ -115,9 +115,22 @@ void close_block(uint8_t *file, size_t block)
     put_word(file, block, BLOCK_WORDS - 1, 0 - sum);
 }
 
-size_t make_sheet(uint8_t *file, const uint16_t *table, size_t nodes, uint16_t separation)
+size_t block_count(size_t nodes)
 {
-    size_t blocks = 1 + (nodes + BLOCK_ROWS - 1) / BLOCK_ROWS;
+    return 1 + (nodes + BLOCK_ROWS - 1) / BLOCK_ROWS;
+}
+
+void make_tapes(uint16_t *tapes, size_t len)
+{
+    for (size_t i = 0; i < len; i++) {
+        tapes[i] = (uint16_t)random_bits();
+    }
+}
+
+size_t make_sheet(uint8_t *file, const uint16_t *table, const uint16_t *tapes, size_t nodes,
+                  uint16_t separation)
+{
+    size_t blocks = block_count(nodes);
     memset(file, 0, blocks * BLOCK_BYTES);
     put_word(file, 0, 2, nodes);
     put_word(file, 0, 3, separation);
@@ -127,8 +140,8 @@ size_t make_sheet(uint8_t *file, const uint16_t *table, size_t nodes, uint16_t s
         put_word(file, block, 1, row + 1);
         put_word(file, block, 2 + 4 * row, table[2 * node]);
         put_word(file, block, 3 + 4 * row, table[2 * node + 1]);
-        put_word(file, block, 4 + 4 * row, random_bits());
-        put_word(file, block, 5 + 4 * row, random_bits());
+        put_word(file, block, 4 + 4 * row, tapes[2 * node]);
+        put_word(file, block, 5 + 4 * row, tapes[2 * node + 1]);
     }
     for (size_t block = 0; block < blocks; block++) {
         close_block(file, block);

@@ -26,8 +26,15 @@ void put_word(uint8_t *file, size_t block, size_t word, size_t value);
 /* Makes a block's sum zero by its last word. */
 void close_block(uint8_t *file, size_t block);
 
-/* Writes the sheet file of a table, with any tape numbers. Its length. */
-size_t make_sheet(uint8_t *file, const uint16_t *table, size_t nodes, uint16_t separation);
+/* The blocks of a sheet file of so many nodes. */
+size_t block_count(size_t nodes);
+
+/* So many words of any tape numbers. */
+void make_tapes(uint16_t *tapes, size_t len);
+
+/* Writes the sheet file of a table with two words of tapes for each node. Its length. */
+size_t make_sheet(uint8_t *file, const uint16_t *table, const uint16_t *tapes, size_t nodes,
+                  uint16_t separation);
 
 /* Damages a sheet file so that this condition, 9 to 12, is the first that holds. Its new length,
    at most MOST_FILE + BLOCK_BYTES. */

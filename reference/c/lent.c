@@ -131,8 +131,13 @@ void expect_zero(const struct lent *lent, size_t bytes)
     }
 }
 
+void expect_bytes(const struct lent *lent, const void *wanted, size_t bytes)
+{
+    expect_written(lent, bytes);
+    expect(memcmp(lent->start, wanted, bytes) == 0, "what is written is that of the paper");
+}
+
 void expect_words(const struct lent *lent, const uint16_t *words, size_t count)
 {
-    expect_written(lent, 2 * count);
-    expect(memcmp(lent->start, words, 2 * count) == 0, "the words are those of the paper");
+    expect_bytes(lent, words, 2 * count);
 }

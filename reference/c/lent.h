@@ -33,7 +33,10 @@ void expect_written(const struct lent *lent, size_t bytes);
 
 void expect_zero(const struct lent *lent, size_t bytes);
 
-/* The slice starts with these words, which were written; the others are as they were. */
+/* The slice starts with these bytes, which were written; the others are as they were. */
+void expect_bytes(const struct lent *lent, const void *wanted, size_t bytes);
+
+/* The same with words. */
 void expect_words(const struct lent *lent, const uint16_t *words, size_t count);
 
 /* Ends the program unless a condition holds. */

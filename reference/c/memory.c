@@ -16,16 +16,16 @@
 #include <stdlib.h>
 #include <string.h>
 
-enum operation { CHECK, LAYOUT, MIRROR, RENUMBER, READ, LIST, OPERATIONS };
+enum operation { CHECK, LAYOUT, MIRROR, RENUMBER, READ, WRITE, LIST, OPERATIONS };
 
-static const char *const names[OPERATIONS] = {"check_table", "layout",     "mirror",
-                                              "renumber",    "read_sheet", "list_sheet"};
+static const char *const names[OPERATIONS] = {"check_table", "layout",      "mirror",    "renumber",
+                                              "read_sheet",  "write_sheet", "list_sheet"};
 
 /* The numbers that each operation can give, as bits. */
-static const unsigned possible[OPERATIONS] = {0x3f, 0x1ff, 0xbf, 0xbf, 0x1e81, 0x1ebd};
+static const unsigned possible[OPERATIONS] = {0x3f, 0x1ff, 0xbf, 0xbf, 0x1e81, 0x20ff, 0x1ebd};
 
 /* The number that a call must give is not known. */
-enum { ANY = 13 };
+enum { ANY = 14 };
 
 static unsigned long given[OPERATIONS][ANY];
 static enum placing placing;
@@ -137,6 +137,30 @@ static void read_sheet(const uint8_t *bytes, size_t len, size_t table_len, size_
     expect_written(&tapes, 4 * n);
 }
 
+/* Counts of tape words and of bytes. */
+struct room {
+    size_t tapes, out;
+};
+
+static void write_sheet(const uint16_t *entries, size_t len, uint16_t separation, struct room room,
+                        unsigned wanted)
+{
+    static uint16_t words[2 * MOST_NODES + 16];
+    static uint8_t file[MOST_FILE];
+    make_tapes(words, room.tapes);
+    take_back(placing);
+    struct lent table = lend_input(entries, 2 * len), tapes = lend_input(words, 2 * room.tapes);
+    struct lent out = lend_output(room.out), bytes = lend_output(2);
+    uint16_t number = hiwenoka_write_sheet(table.start, len, separation, tapes.start, room.tapes,
+                                           out.start, room.out, bytes.start);
+    expect_number(WRITE, &table, number, wanted);
+    expect_written(&tapes, 0);
+    expect_field(&bytes, number);
+    size_t written = number == 0 ? make_sheet(file, entries, words, len / 2, separation) : 0;
+    expect(*(uint16_t *)bytes.start == written, "the length of the file");
+    expect_bytes(&out, file, written);
+}
+
 /* The number that a listing says; 7, for want of room, is said by no text. ANY if it says none. */
 static unsigned number_in(const char *text, size_t bytes)
 {
@@ -165,13 +189,24 @@ static uint16_t some_separation(void)
     return (uint16_t)(1 + below(below(2) == 0 ? 4 : 1024));
 }
 
+/* Below the range or above it. */
+static uint16_t wrong_separation(void)
+{
+    return (uint16_t)(below(4) == 0 ? 0 : 1025 + below(64511));
+}
+
 /* Just long enough for so many nodes. */
 static struct lengths exact(size_t nodes)
 {
     return (struct lengths){nodes, nodes, 2 * nodes, 16 * nodes};
 }
 
-/* The four operations on a table, with slices that are just long enough. */
+static struct room exact_room(size_t nodes)
+{
+    return (struct room){2 * nodes, BLOCK_BYTES * block_count(nodes)};
+}
+
+/* The five operations on a table, with slices that are just long enough. */
 static void every_operation(const uint16_t *table, size_t len, unsigned wanted)
 {
     size_t nodes = (len + 1) / 2;
@@ -179,6 +214,7 @@ static void every_operation(const uint16_t *table, size_t len, unsigned wanted)
     layout(table, len, some_separation(), exact(nodes), wanted);
     mirror(table, len, 2 * nodes, wanted);
     renumber(table, len, 2 * nodes, nodes, wanted);
+    write_sheet(table, len, some_separation(), exact_room(nodes), wanted);
 }
 
 /* Lengths that are wrong for any table. */
@@ -199,13 +235,14 @@ static void listings(const uint8_t *file, size_t bytes, unsigned wanted)
 
 static void damaged_tables(const uint16_t *table, size_t nodes)
 {
-    uint16_t damaged[2 * MOST_NODES];
+    uint16_t damaged[2 * MOST_NODES], tapes[2 * MOST_NODES];
     uint8_t file[MOST_FILE];
+    make_tapes(tapes, 2 * nodes);
     for (unsigned number = 2; number <= (nodes == 1 ? 4 : 5); number++) {
         memcpy(damaged, table, 4 * nodes);
         damage_tree(damaged, nodes, number);
         every_operation(damaged, 2 * nodes, number);
-        listings(file, make_sheet(file, damaged, nodes, some_separation()), number);
+        listings(file, make_sheet(file, damaged, tapes, nodes, some_separation()), number);
     }
     memcpy(damaged, table, 4 * nodes);
     for (size_t count = 1 + below(4); count > 0; count--) {
@@ -226,7 +263,7 @@ static void other_lengths(const uint16_t *table, size_t nodes)
         lengths.record -= slice == 2 ? shorter : 0;
         lengths.work -= slice == 3 ? shorter : 0;
         layout(table, len, separation, lengths, slice == 3 ? 8 : 7);
-        layout(table, len, (uint16_t)(slice == 0 ? 0 : 1025 + below(64511)), lengths, 6);
+        layout(table, len, wrong_separation(), lengths, 6);
     }
     layout(table, len, separation, (struct lengths){0, 0, 0, 0}, 7);
     struct lengths longer = exact(nodes);
@@ -242,10 +279,28 @@ static void other_lengths(const uint16_t *table, size_t nodes)
     renumber(table, len, len + 1 + below(9), nodes + 1 + below(9), 0);
 }
 
+/* The same for a sheet that is written; where more than one thing is wrong, the first decides. */
+static void other_rooms(const uint16_t *table, size_t nodes)
+{
+    size_t len = 2 * nodes;
+    struct room room = exact_room(nodes), longer = {len + 1 + below(9), room.out + 1 + below(999)};
+    struct room few_tapes = {len - 1, room.out}, small = {len, room.out - 1}, none = {0, 0};
+    struct room a_block_less = {longer.tapes, room.out - BLOCK_BYTES};
+    write_sheet(table, len, wrong_separation(), room, 6);
+    write_sheet(table, len, wrong_separation(), below(2) == 0 ? few_tapes : none, 6);
+    write_sheet(table, len, some_separation(), few_tapes, 13);
+    write_sheet(table, len, some_separation(), none, 13);
+    write_sheet(table, len, some_separation(), small, 7);
+    write_sheet(table, len, some_separation(), a_block_less, 7);
+    write_sheet(table, len, some_separation(), longer, 0);
+}
+
 static void sheets(const uint16_t *table, size_t nodes)
 {
     uint8_t file[MOST_FILE + BLOCK_BYTES] = {0}, damaged[MOST_FILE + BLOCK_BYTES];
-    size_t bytes = make_sheet(file, table, nodes, some_separation());
+    uint16_t tapes[2 * MOST_NODES];
+    make_tapes(tapes, 2 * nodes);
+    size_t bytes = make_sheet(file, table, tapes, nodes, some_separation());
     size_t len = 2 * nodes, shorter = below(2) == 0 ? 1 : len;
     read_sheet(file, bytes, len, len, 0);
     read_sheet(file, bytes, len - shorter, len, 7);
@@ -283,6 +338,7 @@ static void one_round(uint64_t seed)
     make_tree(table, nodes);
     every_operation(table, 2 * nodes, 0);
     other_lengths(table, nodes);
+    other_rooms(table, nodes);
     wrong_lengths();
     damaged_tables(table, nodes);
     sheets(table, nodes);

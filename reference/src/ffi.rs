@@ -49,6 +49,16 @@ mod raw {
             nodes: *mut u16,
             separation: *mut u16,
         ) -> u16;
+        pub fn hiwenoka_write_sheet(
+            table: *const u16,
+            table_len: usize,
+            separation: u16,
+            tapes: *const u16,
+            tapes_len: usize,
+            out: *mut u8,
+            out_len: usize,
+            bytes: *mut u16,
+        ) -> u16;
         pub fn hiwenoka_list_sheet(
             file: *const u8,
             file_len: usize,
@@ -147,6 +157,29 @@ pub fn read_sheet(
             tapes.len(),
             nodes,
             separation,
+        )
+    }
+}
+
+#[inline]
+pub fn write_sheet(
+    table: &[u16],
+    separation: u16,
+    tapes: &[u16],
+    out: &mut [u8],
+    bytes: &mut u16,
+) -> u16 {
+    // SAFETY: as in `mirror`.
+    unsafe {
+        raw::hiwenoka_write_sheet(
+            table.as_ptr(),
+            table.len(),
+            separation,
+            tapes.as_ptr(),
+            tapes.len(),
+            out.as_mut_ptr(),
+            out.len(),
+            bytes,
         )
     }
 }

@@ -65,7 +65,7 @@ fn random_tape(random: &mut Random) -> u32 {
 }
 
 /// A sheet of this table, its separation often a small one.
-fn random_sheet(table: Vec<u16>, random: &mut Random) -> Sheet {
+pub fn random_sheet(table: Vec<u16>, random: &mut Random) -> Sheet {
     let greatest = [3, 12, 1_024][random.below(3)];
     let tapes = (0..table.len() / 2).flat_map(|_| {
         let tape = random_tape(random);
@@ -75,6 +75,15 @@ fn random_sheet(table: Vec<u16>, random: &mut Random) -> Sheet {
         tapes: tapes.collect(),
         separation: random.between(1, greatest) as u16,
         table,
+    }
+}
+
+/// A sheet of so many nodes with random words in its rows: the reader does not judge the tree.
+pub fn sheet_of_words(nodes: usize, random: &mut Random) -> Sheet {
+    Sheet {
+        separation: random.between(1, 1_024) as u16,
+        table: (0..2 * nodes).map(|_| random.word()).collect(),
+        tapes: (0..2 * nodes).map(|_| random.word()).collect(),
     }
 }
 
@@ -90,7 +99,7 @@ pub fn random_table(nodes: usize, random: &mut Random) -> Vec<u16> {
 }
 
 /// A count of nodes, most often a small one.
-fn random_size(random: &mut Random) -> usize {
+pub fn random_size(random: &mut Random) -> usize {
     let greatest = [12, 48, 200, 1_024][random.below(4)];
     random.between(1, greatest)
 }

@@ -51,6 +51,14 @@ impl<T: Entry> Lent<T> {
         }
     }
 
+    /// A slice that holds these entries.
+    pub fn holding(entries: &[T], random: &mut Random) -> Self {
+        let mut lent = Lent::new(entries.len(), random);
+        lent.slice().copy_from_slice(entries);
+        lent.before.clone_from(&lent.entries);
+        lent
+    }
+
     pub fn slice(&mut self) -> &mut [T] {
         &mut self.entries[self.start..self.start + self.len]
     }
@@ -86,5 +94,15 @@ mod tests {
         let end = lent.start + lent.len;
         lent.entries[end] = lent.entries[end].wrapping_add(1);
         assert!(!lent.margins_untouched());
+    }
+
+    #[test]
+    fn a_slice_holds_what_it_is_given() {
+        let lent = Lent::holding(&[7_u16, 8, 9], &mut Random::new(1));
+        assert_eq!(
+            (lent.before(), lent.after()),
+            (&[7, 8, 9][..], &[7, 8, 9][..])
+        );
+        assert!(lent.margins_untouched());
     }
 }

@@ -1,6 +1,6 @@
-//! The model of the sheet file: its layout, a reader, and a writer for test files.
+//! The model of the sheet file: its layout, the reader and the writer.
 
-use crate::table::over_start;
+use crate::table::{over_start, refusal};
 
 pub const BLOCK_BYTES: usize = 512;
 pub const BLOCK_WORDS: usize = 256;
@@ -133,6 +133,11 @@ pub fn block_count(nodes: usize) -> usize {
     1 + nodes.div_ceil(BLOCK_ROWS)
 }
 
+/// The bytes of a file of so many nodes.
+pub fn file_len(nodes: usize) -> usize {
+    BLOCK_BYTES * block_count(nodes)
+}
+
 /// The block of a node's row and the index of its first word there.
 pub fn row_start(node: usize) -> (usize, usize) {
     (1 + node / BLOCK_ROWS, 2 + ROW_WORDS * (node % BLOCK_ROWS))
@@ -154,6 +159,53 @@ pub fn fixed_word(nodes: usize, place: usize, index: usize) -> Option<u16> {
         (_, 1) => Some(row_count(nodes, place) as u16),
         _ if index - 2 < ROW_WORDS * row_count(nodes, place) => None,
         _ => Some(0),
+    }
+}
+
+/// What a call of the writer must give.
+#[derive(Debug, PartialEq, Eq)]
+pub struct Written {
+    pub number: u16,
+    pub bytes: u16,
+    pub out: Vec<u8>,
+}
+
+/// `out` is the output slice as it is lent.
+pub fn write_sheet(table: &[u16], separation: u16, tapes: &[u16], out: &[u8]) -> Written {
+    match write_refusal(table, separation, tapes.len(), out.len()) {
+        0 => {
+            let file = write(&Sheet {
+                separation,
+                table: table.to_vec(),
+                tapes: tapes[..table.len()].to_vec(),
+            });
+            Written {
+                number: 0,
+                bytes: file.len() as u16,
+                out: over_start(out, &file),
+            }
+        }
+        number => Written {
+            number,
+            bytes: 0,
+            out: out.to_vec(),
+        },
+    }
+}
+
+/// The first of the writer's conditions that holds, in their order, or 0.
+fn write_refusal(table: &[u16], separation: u16, tapes_len: usize, out_len: usize) -> u16 {
+    let number = refusal(table);
+    if number != 0 {
+        number
+    } else if !(1..=MOST_SEPARATION).contains(&separation) {
+        6
+    } else if tapes_len < table.len() {
+        13
+    } else if out_len < file_len(table.len() / 2) {
+        7
+    } else {
+        0
     }
 }
 
@@ -194,7 +246,10 @@ pub fn example() -> Sheet {
 #[cfg(test)]
 mod tests {
     use super::*;
+    use crate::files::sheet_of_words;
     use crate::random::Random;
+    use crate::shapes::chain;
+    use crate::table::NONE;
 
     #[test]
     fn the_example_of_the_paper() {
@@ -204,10 +259,9 @@ mod tests {
         assert_eq!(blocks.len(), 2);
         assert_eq!(blocks[0][..5], [0, 0, 3, 3, 0]);
         assert_eq!(blocks[0][255], 65_530);
-        let none = crate::table::NONE;
         assert_eq!(
             blocks[1][..15],
-            [1, 3, 1, none, 500, 0, none, 2, 501, 0, none, none, 502, 0, 0]
+            [1, 3, 1, NONE, 500, 0, NONE, 2, 501, 0, NONE, NONE, 502, 0, 0]
         );
         assert_eq!(blocks[1][255], 64_030);
         let read = read(&file, &[9; 7], &[8; 6]);
@@ -232,11 +286,7 @@ mod tests {
     fn what_is_written_is_read() {
         let mut random = Random::new(3);
         for nodes in [1, 2, 62, 63, 64, 126, 127, 500, 1_008, 1_009, 1_024] {
-            let sheet = Sheet {
-                separation: random.between(1, 1_024) as u16,
-                table: (0..2 * nodes).map(|_| random.word()).collect(),
-                tapes: (0..2 * nodes).map(|_| random.word()).collect(),
-            };
+            let sheet = sheet_of_words(nodes, &mut random);
             let read = contents(&write(&sheet), 2 * nodes, 2 * nodes);
             assert_eq!(read, Ok(sheet));
         }
@@ -274,5 +324,45 @@ mod tests {
         assert_eq!(changed(1, 254, 1), 12);
         assert_eq!(read(&file, &[0; 5], &[0; 6]).number, 7);
         assert_eq!(read(&file, &[0; 6], &[0; 5]).number, 7);
+    }
+
+    #[test]
+    fn a_call_of_the_writer() {
+        let sheet = example();
+        let tapes = [&sheet.tapes[..], &[9]].concat();
+        let written = write_sheet(&sheet.table, sheet.separation, &tapes, &[8; 1_026]);
+        assert_eq!((written.number, written.bytes), (0, 1_024));
+        assert_eq!(written.out[..1_024], write(&sheet));
+        assert_eq!(written.out[1_024..], [8; 2]);
+        let refused = Written {
+            number: 7,
+            bytes: 0,
+            out: vec![8; 1_023],
+        };
+        assert_eq!(write_sheet(&sheet.table, 3, &tapes, &[8; 1_023]), refused);
+    }
+
+    #[test]
+    fn refusals_of_the_writer_in_order() {
+        let table = example().table;
+        for (number, broken) in [
+            (1, &table[..5]),
+            (2, &[3, NONE, NONE, 2, NONE, NONE]),
+            (3, &[1, 2, NONE, 2, NONE, NONE]),
+            (4, &[1, NONE, 1, 2, NONE, NONE]),
+            (5, &[1, NONE, NONE, NONE, NONE, NONE]),
+        ] {
+            assert_eq!(write_refusal(broken, 0, 0, 0), number);
+            assert_eq!(write_refusal(broken, 1, 6, 1_024), number);
+        }
+        assert_eq!(write_refusal(&table, 0, 5, 1_023), 6);
+        assert_eq!(write_refusal(&table, 1_025, 6, 1_024), 6);
+        assert_eq!(write_refusal(&table, 1_024, 5, 1_023), 13);
+        assert_eq!(write_refusal(&table, 1, 5, 1_024), 13);
+        assert_eq!(write_refusal(&table, 1, 6, 1_023), 7);
+        assert_eq!(write_refusal(&table, 1, 6, 1_024), 0);
+        let full = chain(1_024);
+        assert_eq!(write_refusal(&full, 1, 2_048, 9_215), 7);
+        assert_eq!(write_refusal(&full, 1, 2_048, 9_216), 0);
     }
 }

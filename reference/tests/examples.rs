@@ -9,6 +9,17 @@ use std::process::{Command, Stdio};
 /// What a layout's example prints: number, level and place of each node, and the neighbours.
 const LAID_OUT: &str = "0 0 0\n1 1 -1\n2 2 -2\n3 2 1\n4 1 2\n1 beside 4\n2 beside 3\n";
 
+/// What the example of a written sheet prints: the listing of the file.
+const WRITTEN: &str = "\
+sheet 6 3 4 -2 6
+0 0 0 900
+1 1 -2 901
+2 1 2 902
+3 2 -2 903
+4 2 2 904
+5 2 6 70000
+";
+
 fn root() -> PathBuf {
     Path::new(env!("CARGO_MANIFEST_DIR")).join("..")
 }
@@ -62,6 +73,8 @@ fn the_programs_in_c_build_and_print() {
     lists(built("examples/list.c", "gcc "));
     let printed = printed_by(&mut built("examples/layout.c", "gcc "));
     assert_eq!(printed, LAID_OUT);
+    let printed = printed_by(&mut built("examples/write.c", "gcc "));
+    assert_eq!(printed, WRITTEN);
 }
 
 #[test]
@@ -69,6 +82,8 @@ fn the_programs_in_rust_build_and_print() {
     lists(built("examples/list.rs", "rustc "));
     let printed = printed_by(&mut built("examples/layout.rs", "rustc "));
     assert_eq!(printed, LAID_OUT);
+    let printed = printed_by(&mut built("examples/write.rs", "rustc "));
+    assert_eq!(printed, WRITTEN);
 }
 
 #[test]

@@ -46,8 +46,7 @@ impl Comparison {
         self.run.count_call();
         let call = Call { file, room };
         let random = &mut self.run.random;
-        let mut given: Lent<u8> = Lent::new(file.len(), random);
-        given.slice().copy_from_slice(file);
+        let given: Lent<u8> = Lent::holding(file, random);
         let mut out: Lent<u8> = Lent::new(room, random);
         let wanted: &[u8] = if room < TEXT_ROOM { &[] } else { text };
         let written = ffi::list_sheet(given.after(), out.slice());

@@ -5,11 +5,10 @@
 //! entry past those named must be as it was.
 
 use reference::ffi;
-use reference::files;
+use reference::files::{self, sheet_of_words};
 use reference::lent::Lent;
-use reference::random::Random;
 use reference::run::Run;
-use reference::sheet::{self, Sheet, BLOCK_BYTES, BLOCK_WORDS, CLOSING_WORD, MOST_BLOCKS};
+use reference::sheet::{self, BLOCK_BYTES, BLOCK_WORDS, CLOSING_WORD, MOST_BLOCKS};
 use std::fmt;
 
 /// What a call was given, for the message of a failure.
@@ -29,15 +28,6 @@ impl fmt::Display for Call<'_> {
             self.file.len(),
             &self.file[..self.file.len().min(32)]
         )
-    }
-}
-
-/// A sheet of so many nodes with random words in its rows: the reader does not judge the tree.
-fn random_sheet(nodes: usize, random: &mut Random) -> Sheet {
-    Sheet {
-        separation: random.between(1, 1_024) as u16,
-        table: (0..2 * nodes).map(|_| random.word()).collect(),
-        tapes: (0..2 * nodes).map(|_| random.word()).collect(),
     }
 }
 
@@ -128,16 +118,16 @@ impl Comparison {
     fn sound_files(&mut self) {
         for nodes in [1, 62, 63, 64, 126, 127, 1_008, 1_009, 1_024] {
             for _ in 0..20 {
-                let file = sheet::write(&random_sheet(nodes, &mut self.run.random));
+                let file = sheet::write(&sheet_of_words(nodes, &mut self.run.random));
                 self.all_slices(&file, nodes);
                 self.read_as(7, "empty slices", &file, 0);
             }
             // The low 16 bits of these lengths alone would be too short.
-            let file = sheet::write(&random_sheet(nodes, &mut self.run.random));
+            let file = sheet::write(&sheet_of_words(nodes, &mut self.run.random));
             self.read_as(0, "long slices", &file, 65_536);
         }
         for nodes in 1..=1_024 {
-            let file = sheet::write(&random_sheet(nodes, &mut self.run.random));
+            let file = sheet::write(&sheet_of_words(nodes, &mut self.run.random));
             self.all_slices(&file, nodes);
         }
         self.run
@@ -145,7 +135,7 @@ impl Comparison {
     }
 
     fn single_bits(&mut self) {
-        let mut file = sheet::write(&random_sheet(100, &mut self.run.random));
+        let mut file = sheet::write(&sheet_of_words(100, &mut self.run.random));
         assert_eq!(file.len(), 3 * BLOCK_BYTES);
         for bit in 0..8 * file.len() {
             file[bit / 8] ^= 1 << (bit % 8);
@@ -160,7 +150,7 @@ impl Comparison {
     fn moved_blocks(&mut self) {
         for count in 2..=MOST_BLOCKS {
             let nodes = most_nodes(count);
-            let file = sheet::write(&random_sheet(nodes, &mut self.run.random));
+            let file = sheet::write(&sheet_of_words(nodes, &mut self.run.random));
             let blocks = sheet::blocks_of(&file);
             let mut arrangements = Vec::new();
             for i in 0..count {
@@ -206,7 +196,7 @@ impl Comparison {
     /// Each word that the layout fixes, changed in several ways with the check mended.
     fn fixed_words(&mut self) {
         for nodes in [1, 5, 62, 63, 64, 126, 127, 1_009, 1_024] {
-            let file = sheet::write(&random_sheet(nodes, &mut self.run.random));
+            let file = sheet::write(&sheet_of_words(nodes, &mut self.run.random));
             let mut blocks = sheet::blocks_of(&file);
             for place in 0..blocks.len() {
                 for index in 0..BLOCK_WORDS {
@@ -244,7 +234,7 @@ impl Comparison {
         ];
         for blocks in 2..=MOST_BLOCKS {
             let nodes = most_nodes(blocks);
-            let sheet = random_sheet(nodes, &mut self.run.random);
+            let sheet = sheet_of_words(nodes, &mut self.run.random);
             for n in values {
                 for separation in [0, 1, 512, 1_024, 1_025, 65_535] {
                     let mut blocks = sheet::blocks_of(&sheet::write(&sheet));
@@ -271,7 +261,7 @@ impl Comparison {
         {
             for nodes in [63, 1_024] {
                 // A sound file cut off or followed by zeros, zeros alone, and random bytes.
-                let mut cut = sheet::write(&random_sheet(nodes, &mut self.run.random));
+                let mut cut = sheet::write(&sheet_of_words(nodes, &mut self.run.random));
                 cut.resize(len, 0);
                 for file in [cut, vec![0; len], self.run.random.bytes(len)] {
                     let number = self.read(&file, 2 * nodes, 2 * nodes);
@@ -309,7 +299,7 @@ impl Comparison {
                 0 => random.between(1, 1_024),
                 _ => random.between(1, 200),
             };
-            let sheet = random_sheet(nodes, random);
+            let sheet = sheet_of_words(nodes, random);
             let mut blocks = sheet::blocks_of(&sheet::write(&sheet));
             files::change_words(&mut blocks, random);
             let table_len = 2 * nodes + 1 - random.below(3);

@@ -1,0 +1,364 @@
+//! The library's sheet writer held against the model, call by call, and against the reader.
+//!
+//! All slices lie between margins. The output slice holds random bytes at first, and the result
+//! field a random number. After a refusal every byte must be as it was and the field 0; after an
+//! acceptance every byte past the file must be as it was. Table and tapes are only read.
+
+use reference::ffi;
+use reference::files::{random_sheet, random_size, random_table, sheet_of_words};
+use reference::lent::Lent;
+use reference::random::Random;
+use reference::run::{Run, Shown};
+use reference::shapes;
+use reference::sheet::{self, Sheet, Written, BLOCK_BYTES, BLOCK_ROWS, CLOSING_WORD};
+use reference::table::{self, NONE};
+use std::collections::HashSet;
+use std::fmt;
+
+/// How many different sheets go each way, written then read and read then written.
+const ROUND_TRIPS: usize = 20_000;
+
+/// What a call was given, for the message of a failure.
+struct Call<'a> {
+    sheet: &'a Sheet,
+    out_len: usize,
+}
+
+impl fmt::Display for Call<'_> {
+    fn fmt(&self, f: &mut fmt::Formatter) -> fmt::Result {
+        let Call { sheet, out_len } = self;
+        write!(
+            f,
+            "write_sheet with separation {}, tapes_len {}, out_len {out_len}, {}",
+            sheet.separation,
+            sheet.tapes.len(),
+            Shown(&sheet.table)
+        )
+    }
+}
+
+/// The sizes beside a full block, and the greatest.
+fn edges() -> impl Iterator<Item = usize> {
+    (1..=16)
+        .flat_map(|blocks| [-1, 0, 1].map(|step| (BLOCK_ROWS * blocks).wrapping_add_signed(step)))
+        .chain([1_023, 1_024])
+}
+
+/// A sheet of any tree.
+fn any_sheet(nodes: usize, random: &mut Random) -> Sheet {
+    let table = random_table(nodes, random);
+    random_sheet(table, random)
+}
+
+/// Tables of at least two nodes for every number of the table check.
+fn tables_of_each_number(nodes: usize, random: &mut Random) -> Vec<(u16, Vec<u16>)> {
+    let tree = random_table(nodes, random);
+    let with = |entry: usize, value: usize| {
+        let mut table = tree.clone();
+        table[entry] = value as u16;
+        table
+    };
+    let of_length = |len: usize| tree.iter().copied().cycle().take(len).collect();
+    let free: Vec<usize> = (2..2 * nodes)
+        .filter(|&entry| tree[entry] == NONE)
+        .collect();
+    vec![
+        (0, tree.clone()),
+        (1, vec![]),
+        (1, of_length(2 * nodes - 1)),
+        (1, of_length(2 * nodes + 1)),
+        (1, of_length(2_050)),
+        (1, of_length(65_536 + 2 * nodes)),
+        (2, with(random.below(2 * nodes), nodes)),
+        (2, with(random.below(2 * nodes), usize::from(NONE) - 1)),
+        (3, with(1, random.below(nodes))),
+        (4, with(free[random.below(free.len())], random.below(nodes))),
+        (5, shapes::strays(nodes)),
+        (5, shapes::ring(nodes)),
+        (5, shapes::sibling_ring(nodes)),
+    ]
+}
+
+struct Comparison {
+    run: Run,
+}
+
+impl Comparison {
+    /// One call. The sheet's tapes may be fewer or more than its nodes need.
+    fn write(&mut self, sheet: &Sheet, out_len: usize) -> Written {
+        self.run.count_call();
+        let call = Call { sheet, out_len };
+        let random = &mut self.run.random;
+        let table: Lent<u16> = Lent::holding(&sheet.table, random);
+        let tapes: Lent<u16> = Lent::holding(&sheet.tapes, random);
+        let mut out: Lent<u8> = Lent::new(out_len, random);
+        let mut bytes: Lent<u16> = Lent::new(1, random);
+        let separation = sheet.separation;
+        let wanted = sheet::write_sheet(&sheet.table, separation, &sheet.tapes, out.before());
+        let number = ffi::write_sheet(
+            table.after(),
+            separation,
+            tapes.after(),
+            out.slice(),
+            &mut bytes.slice()[0],
+        );
+        self.run.count_number(number);
+        let run = &self.run;
+        run.expect("number", number, wanted.number, &call);
+        run.expect("bytes", bytes.after()[0], wanted.bytes, &call);
+        run.expect_slice("out", out.after(), &wanted.out, &call);
+        run.expect(
+            "margins of out untouched",
+            out.margins_untouched(),
+            true,
+            &call,
+        );
+        for (what, lent) in [("table", &table), ("tapes", &tapes), ("bytes", &bytes)] {
+            let what = format!("margins of {what} untouched");
+            run.expect(&what, lent.margins_untouched(), true, &call);
+        }
+        run.expect_slice("table", table.after(), &sheet.table, &call);
+        run.expect_slice("tapes", tapes.after(), &sheet.tapes, &call);
+        Written {
+            number,
+            bytes: bytes.after()[0],
+            out: out.after().to_vec(),
+        }
+    }
+
+    /// The call and, besides the model's, a number that must come out.
+    fn write_as(&mut self, wanted: u16, what: &str, sheet: &Sheet, out_len: usize) {
+        let number = self.write(sheet, out_len).number;
+        self.run
+            .expect(what, number, wanted, &"the paper's own number");
+    }
+
+    /// The file of a sheet that is accepted.
+    fn file_of(&mut self, sheet: &Sheet) -> Vec<u8> {
+        let out_len = sheet::file_len(sheet.table.len() / 2);
+        let written = self.write(sheet, out_len);
+        self.run
+            .expect("number", written.number, 0, &"a sheet to be accepted");
+        written.out
+    }
+
+    /// What the library reads from a sound file.
+    fn read(&mut self, file: &[u8]) -> Sheet {
+        self.run.count_call();
+        let (mut table, mut tapes) = (vec![0; 2_048], vec![0; 2_048]);
+        let (mut nodes, mut separation) = (0, 0);
+        let number = ffi::read_sheet(file, &mut table, &mut tapes, &mut nodes, &mut separation);
+        self.run
+            .expect("number of the reader", number, 0, &"a sound file");
+        table.truncate(2 * usize::from(nodes));
+        tapes.truncate(2 * usize::from(nodes));
+        Sheet {
+            separation,
+            table,
+            tapes,
+        }
+    }
+
+    fn example(&mut self) {
+        let sheet = sheet::example();
+        let blocks = sheet::blocks_of(&self.file_of(&sheet));
+        let run = &self.run;
+        run.expect("check 0", blocks[0][CLOSING_WORD], 65_530, &"the example");
+        run.expect("check 1", blocks[1][CLOSING_WORD], 64_030, &"the example");
+        self.write_as(7, "the example", &sheet, 1_023);
+        self.run.end_section("the example of the paper");
+    }
+
+    /// Tapes and room empty, too short by one or by a block, exact and longer, in all ways.
+    /// `refused` is the number of the table or of D, or 0.
+    fn all_slices(&mut self, refused: u16, sheet: &Sheet, nodes: usize) {
+        let len = sheet::file_len(nodes);
+        let longer = self.run.random.between(1, 9);
+        let more_room = len + [1, 9, BLOCK_BYTES][self.run.random.below(3)];
+        for tapes_len in [0, 2 * nodes - 1, 2 * nodes, 2 * nodes + longer] {
+            let mut given = sheet.clone();
+            given.tapes.resize(tapes_len, self.run.random.word());
+            for out_len in [0, len - BLOCK_BYTES, len - 1, len, more_room] {
+                let wanted = match refused {
+                    0 if tapes_len < 2 * nodes => 13,
+                    0 if out_len < len => 7,
+                    number => number,
+                };
+                self.write_as(wanted, "slices of all lengths", &given, out_len);
+            }
+        }
+    }
+
+    fn sizes(&mut self) {
+        for nodes in 1..=1_024 {
+            let sheet = any_sheet(nodes, &mut self.run.random);
+            self.all_slices(0, &sheet, nodes);
+        }
+        self.run
+            .end_section("sheets of every size, tapes and room short, exact and longer");
+    }
+
+    /// Every table's number with every bound of D and slices of all lengths.
+    fn several_faults(&mut self) {
+        for nodes in edges().chain([2, 3]) {
+            for (number, table) in tables_of_each_number(nodes, &mut self.run.random) {
+                let mut sheet = any_sheet(nodes, &mut self.run.random);
+                sheet.table = table;
+                for separation in [0, 1, 2, 1_023, 1_024, 1_025, 65_535] {
+                    sheet.separation = separation;
+                    let refused = match number {
+                        0 if !(1..=1_024).contains(&separation) => 6,
+                        _ => number,
+                    };
+                    self.all_slices(refused, &sheet, nodes);
+                }
+            }
+        }
+        self.run
+            .end_section("tables of every number, D at its bounds and slices of all lengths");
+    }
+
+    /// Damaged trees, and lengths and separations of any kind.
+    fn damaged_trees(&mut self) {
+        for _ in 0..10_000 {
+            let random = &mut self.run.random;
+            let nodes = random_size(random);
+            let mut sheet = any_sheet(nodes, random);
+            let count = random.below(4);
+            sheet.table = shapes::damaged(&sheet.table, count, random);
+            sheet.separation = random.below(1_100) as u16;
+            let tapes_len = random.between(2 * nodes - 1, 2 * nodes + 9);
+            sheet.tapes.resize(tapes_len, random.word());
+            let out_len = random.between(0, 3 * sheet::file_len(nodes));
+            self.write(&sheet, out_len);
+        }
+        self.run
+            .end_section("damaged trees, D and lengths at random");
+    }
+
+    /// The low 16 bits of these lengths alone would be too short.
+    fn long_slices(&mut self) {
+        for nodes in edges().chain([1, 2, 3]) {
+            let random = &mut self.run.random;
+            let mut sheet = any_sheet(nodes, random);
+            let exact = sheet::file_len(nodes);
+            let room = [65_536, 65_536 + exact - 1, 65_536 + random.below(exact)];
+            for out_len in room {
+                self.write_as(0, "much room", &sheet, out_len);
+            }
+            for more in [0, 1, 2 * nodes - 1] {
+                sheet.tapes.resize(65_536 + more, NONE);
+                for out_len in [exact, 65_536 + more] {
+                    self.write_as(0, "many tapes", &sheet, out_len);
+                }
+            }
+        }
+        self.run.end_section("slices of 65,536 entries and more");
+    }
+
+    /// Tape words that are all equal, and sums that come out at each end of their range.
+    fn tapes(&mut self) {
+        for nodes in edges().chain(1..=9) {
+            let mut sheet = any_sheet(nodes, &mut self.run.random);
+            for word in [0, 1, 255, 256, 32_768, 65_535] {
+                sheet.tapes.fill(word);
+                self.file_of(&sheet);
+            }
+            for closing_word in [0, 1, 255, 256, 32_768, 65_535] {
+                let mut sheet = sheet_of_words(nodes, &mut self.run.random);
+                sheet.table = random_table(nodes, &mut self.run.random);
+                let blocks = sheet::blocks_of(&sheet::write(&sheet));
+                for (rows, block) in sheet.tapes.chunks_mut(2 * BLOCK_ROWS).zip(&blocks[1..]) {
+                    let tape_word = &mut rows[self.run.random.below(rows.len())];
+                    let rest = block[CLOSING_WORD].wrapping_add(*tape_word);
+                    *tape_word = rest.wrapping_sub(closing_word);
+                }
+                for block in &sheet::blocks_of(&self.file_of(&sheet))[1..] {
+                    let word = block[CLOSING_WORD];
+                    self.run
+                        .expect("closing word", word, closing_word, &"tapes made for it");
+                }
+            }
+        }
+        self.run
+            .end_section("tapes of one word, and tapes that give a closing word");
+    }
+
+    /// What is read is what was written, whatever lies past the tapes.
+    fn written_then_read(&mut self) {
+        let mut files = HashSet::new();
+        while files.len() < ROUND_TRIPS {
+            let random = &mut self.run.random;
+            let nodes = random_size(random);
+            let sheet = any_sheet(nodes, random);
+            let mut more = sheet.clone();
+            more.tapes
+                .extend((0..random.between(1, 9)).map(|_| random.word()));
+            let file = self.file_of(&sheet);
+            let read = self.read(&file);
+            self.run
+                .expect("what is read", &read, &sheet, &"a written sheet");
+            let same = self.file_of(&more);
+            self.run
+                .expect_slice("file with more tapes", &same, &file, &"a written sheet");
+            files.insert(file);
+        }
+        self.run.end_section(&format!(
+            "{ROUND_TRIPS} different sheets written, then read"
+        ));
+    }
+
+    /// What is written is what was read.
+    fn read_then_written(&mut self) {
+        let mut files = HashSet::new();
+        while files.len() < ROUND_TRIPS {
+            let random = &mut self.run.random;
+            let nodes = random_size(random);
+            let file = sheet::write(&any_sheet(nodes, random));
+            let sheet = self.read(&file);
+            let written = self.file_of(&sheet);
+            self.run
+                .expect_slice("what is written", &written, &file, &"a sound file");
+            files.insert(file);
+        }
+        self.run.end_section(&format!(
+            "{ROUND_TRIPS} different sheets read, then written"
+        ));
+    }
+
+    /// The reader does not judge the tree, but the writer does.
+    fn refused_trees(&mut self) {
+        for round in 0..6_000 {
+            let random = &mut self.run.random;
+            let nodes = random_size(random);
+            let mut given = sheet_of_words(nodes, random);
+            if round % 3 > 0 {
+                let count = random.between(1, 4);
+                given.table = shapes::damaged(&random_table(nodes, random), count, random);
+            }
+            let sheet = self.read(&sheet::write(&given));
+            let number = table::refusal(&given.table);
+            self.write_as(number, "what was read", &sheet, sheet::file_len(nodes));
+        }
+        self.run
+            .end_section("trees that are read, then judged by the writer");
+    }
+}
+
+#[test]
+fn the_sheet_writer_agrees_with_the_model() {
+    let mut comparison = Comparison {
+        run: Run::start("write_sheet"),
+    };
+    comparison.example();
+    comparison.sizes();
+    comparison.several_faults();
+    comparison.damaged_trees();
+    comparison.long_slices();
+    comparison.tapes();
+    comparison.written_then_read();
+    comparison.read_then_written();
+    comparison.refused_trees();
+    comparison.run.expect_numbers(&[0, 1, 2, 3, 4, 5, 6, 7, 13]);
+    comparison.run.finish(200_000);
+}
