@@ -13,6 +13,8 @@ use Rattle.tree.specs.Table.{nodes}
 use Rattle.tree.specs.WellFormed.{tableNumber}
 use Rattle.tree.proofs.Stands.{accepted-numbers, accepted-length}
 use Rattle.rule.proofs.Separation.{separation-good}
+use Rattle.sheet.specs.Block.{blockBytes}
+use Rattle.sheet.specs.Layout.{blocksFor}
 use Rattle.sheet.specs.Read.{nodesOf, separationOf, tableOf, tapesOf, refusal, SheetRead}
 use Rattle.sheet.specs.File.{fileOf, EachBelow, Contents}
 use Rattle.sheet.specs.declared.Sheet.{Sheet}
@@ -20,7 +22,7 @@ use Rattle.sheet.proofs.Answer.{Accepted, accepted}
 use Rattle.sheet.proofs.Rewritten.{read-and-written}
 use Rattle.sheet.proofs.RoundTrip.{read-written}
 use Rattle.sheet.proofs.Walk.{length-nodes}
-use Rattle.sheet.proofs.Written.{tapes-unseen}
+use Rattle.sheet.proofs.Written.{length-file, tapes-unseen}
 use Rattle.writer.specs.Write.{sheetFile, writeNumber, SheetWritten}
 use Rattle.writer.specs.declared.Written.{Written}
 use Rattle.writer.proofs.Answer.{Taken, taken, number-table, number-0}
@@ -41,6 +43,10 @@ module _ (table : List ℕ) (D : ℕ) (tapes out : List ℕ) (a : Written) (out�
   -- the count is the file's length
   pub bytes-written : a .bytes ≡ length file
   bytes-written = written .bytes ∙ granted-accepted _ _ 0 number
+
+  -- which is 512 for each block
+  pub blocks-written : a .bytes ≡ blockBytes * blocksFor (nodes table)
+  blocks-written = bytes-written ∙ length-file (nodes table) D table tapes
 
   out-written : out′ ≡ overwrite file out
   out-written = written .out-after ∙ after-accepted _ file out number
