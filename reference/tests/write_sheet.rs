@@ -284,46 +284,43 @@ impl Comparison {
             .end_section("tapes of one word, and tapes that give a closing word");
     }
 
-    /// What is read is what was written, whatever lies past the tapes.
-    fn written_then_read(&mut self) {
+    /// Takes sheets one way until so many different files have come of it.
+    fn round_trips(&mut self, way: &str, trip: fn(&mut Self, &Sheet) -> Vec<u8>) {
         let mut files = HashSet::new();
         while files.len() < ROUND_TRIPS {
             let random = &mut self.run.random;
             let nodes = random_size(random);
             let sheet = any_sheet(nodes, random);
-            let mut more = sheet.clone();
-            more.tapes
-                .extend((0..random.between(1, 9)).map(|_| random.word()));
-            let file = self.file_of(&sheet);
-            let read = self.read(&file);
-            self.run
-                .expect("what is read", &read, &sheet, &"a written sheet");
-            let same = self.file_of(&more);
-            self.run
-                .expect_slice("file with more tapes", &same, &file, &"a written sheet");
-            files.insert(file);
+            files.insert(trip(self, &sheet));
         }
-        self.run.end_section(&format!(
-            "{ROUND_TRIPS} different sheets written, then read"
-        ));
+        self.run
+            .end_section(&format!("{ROUND_TRIPS} different sheets {way}"));
+    }
+
+    /// What is read is what was written, whatever lies past the tapes.
+    fn written_then_read(&mut self, sheet: &Sheet) -> Vec<u8> {
+        let file = self.file_of(sheet);
+        let read = self.read(&file);
+        self.run
+            .expect("what is read", &read, sheet, &"a written sheet");
+        let random = &mut self.run.random;
+        let mut more = sheet.clone();
+        more.tapes
+            .extend((0..random.between(1, 9)).map(|_| random.word()));
+        let same = self.file_of(&more);
+        self.run
+            .expect_slice("file with more tapes", &same, &file, &"a written sheet");
+        file
     }
 
     /// What is written is what was read.
-    fn read_then_written(&mut self) {
-        let mut files = HashSet::new();
-        while files.len() < ROUND_TRIPS {
-            let random = &mut self.run.random;
-            let nodes = random_size(random);
-            let file = sheet::write(&any_sheet(nodes, random));
-            let sheet = self.read(&file);
-            let written = self.file_of(&sheet);
-            self.run
-                .expect_slice("what is written", &written, &file, &"a sound file");
-            files.insert(file);
-        }
-        self.run.end_section(&format!(
-            "{ROUND_TRIPS} different sheets read, then written"
-        ));
+    fn read_then_written(&mut self, sheet: &Sheet) -> Vec<u8> {
+        let file = sheet::write(sheet);
+        let read = self.read(&file);
+        let written = self.file_of(&read);
+        self.run
+            .expect_slice("what is written", &written, &file, &"a sound file");
+        file
     }
 
     /// The reader does not judge the tree, but the writer does.
@@ -356,8 +353,8 @@ fn the_sheet_writer_agrees_with_the_model() {
     comparison.damaged_trees();
     comparison.long_slices();
     comparison.tapes();
-    comparison.written_then_read();
-    comparison.read_then_written();
+    comparison.round_trips("written, then read", Comparison::written_then_read);
+    comparison.round_trips("read, then written", Comparison::read_then_written);
     comparison.refused_trees();
     comparison.run.expect_numbers(&[0, 1, 2, 3, 4, 5, 6, 7, 13]);
     comparison.run.finish(200_000);

@@ -60,7 +60,7 @@ module _ (t : List ℕ) (D : ℕ) (s : Slices) where
 
   pub number-table : (k : ℕ) → k ≡ tableNumber t → (k ≡ 0 → ⊥) → k ≡ layoutNumber t D s
   unfolding layoutNumber
-  number-table k e d = e ∙ sym (table-refused t own (λ z. d (e ∙ z)))
+  number-table k e d = sym (table-refused t own k e d)
 
   number-later : tableNumber t ≡ 0 → layoutNumber t D s ≡ first own
   unfolding layoutNumber

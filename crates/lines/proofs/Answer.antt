@@ -1,16 +1,16 @@
 -- From a text that is stored at the buffer's start to what an operation promises, and what a test that held says. Assumes nothing.
 use mathlib.Core.Path.{_≡_, refl, sym, ap, _∙_, subst}
-use Prim.Native.Nat.{ℕ, _+_, _*_, _≤_}
+use Prim.Native.Nat.{ℕ, _*_, _≤_}
 use native.Mathlib.Nat.{zero-add}
 use native.Mathlib.Omega.{arith}
 use mathlib.Core.Bool.{Bool, true, false}
-use mathlib.Core.List.{List, _++_}
+use mathlib.Core.List.{List}
 use lib.Dec.{leb}
-use lib.ListN.{length, drop}
-use lib.Seq.{sets-eq, length-take-le}
+use lib.ListN.{length}
+use lib.Seq.{length-take-le}
 use borrow.Author.Tests.{leb-true}
 use Rattle.refusal.specs.After.{overwrite}
-use Rattle.refusal.proofs.After.{length-overwrite}
+use Rattle.refusal.proofs.After.{length-overwrite, sets-start}
 use Rattle.refusal.proofs.Truth.{and-left, and-right}
 use Rattle.lines.specs.Printed.{mostNodes, listingRoom, printable, when, Printed}
 use Rattle.lines.specs.Steps.{Put}
@@ -23,10 +23,8 @@ not-printed {old = old} text fails = subst (λ (b : Bool). Printed (when b text)
 -- where it holds, the text that is stored
 pub printed : {test : Bool} {text old new : List ℕ} {answer : ℕ} → test ≡ true → length text ≤ length old → Put 0 text old answer new
     → Printed (when test text) old answer new
-unfolding overwrite
 printed {text = text} {old = old} {new = new} {answer = answer} holds room put =
-    let within : 0 + length text ≤ length old = omega arith in
-    let buffer : new ≡ overwrite text old = put .buffer ∙ sets-eq text old 0 within ∙ ap (λ (k : ℕ). text ++ drop k old) (zero-add (length text)) in
+    let buffer : new ≡ overwrite text old = put .buffer ∙ sets-start text old room in
     let inside : answer ≤ length new = omega (arith, ap length buffer, length-overwrite text old room) in
     subst (λ (b : Bool). Printed (when b text) old answer new) (sym holds) (record {
       bytes = put .place ∙ zero-add (length text);

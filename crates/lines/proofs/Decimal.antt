@@ -11,7 +11,8 @@ use lib.Seq.{sets}
 use borrow.Author.Tests.{lt-ltb, le-ltb}
 use Rattle.lines.specs.Decimal.{digit, decimalWithin, decimal}
 use Rattle.lines.specs.Steps.{digits}
-use Rattle.lines.proofs.Put.{sets-append, sets-late}
+use Rattle.refusal.proofs.After.{sets-append}
+use Rattle.lines.proofs.Put.{sets-late}
 
 -- one order or the other
 pub split {ℓ} : {X : Type ℓ} (a b : ℕ) → (a ≤ b → X) → (b < a → X) → X

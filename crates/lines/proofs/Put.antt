@@ -1,18 +1,13 @@
 -- Texts stored one behind the other are one text stored. Assumes nothing.
 use mathlib.Core.Path.{_≡_, refl, sym, ap, _∙_, subst, subst⁻¹}
 use Prim.Native.Nat.{ℕ, suc, _+_, _≤_, _<_}
-use native.Mathlib.Nat.{add-zero, add-suc, suc-add}
 use native.Mathlib.Numerals.{add-one}
 use native.Mathlib.Omega.{arith}
 use mathlib.Core.List.{List, [], _∷_, _++_}
 use lib.ListN.{length, getD, set, take, length-append, length-set}
 use lib.Seq.{sets, set-comm, take-suc, length-take-le}
+use Rattle.refusal.proofs.After.{sets-append}
 use Rattle.lines.specs.Steps.{Room, Put}
-
--- the rest of a text, stored behind its start
-pub sets-append : (old : List ℕ) (at : ℕ) (a b : List ℕ) → sets (sets old at a) (at + length a) b ≡ sets old at (a ++ b)
-sets-append old at [] b = rw add-zero
-sets-append old at (x ∷ a) b = rw (add-suc, ← suc-add at) (sets-append (set old at x) (suc at) a b)
 
 -- a byte past a text may be stored before the text is
 pub sets-late : (old : List ℕ) (at k x : ℕ) (text : List ℕ) → at + length text ≤ k → sets (set old k x) at text ≡ set (sets old at text) k x

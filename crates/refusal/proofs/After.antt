@@ -1,11 +1,13 @@
 -- Laws of what an operation that gave the number k leaves: a result field, a lent slice, and a slice whose first entries are new.
 -- Assumes nothing.
-use mathlib.Core.Path.{_≡_, refl, sym, ap, _∙_}
-use mathlib.Core.List.{List, [], _∷_, _++_, append-assoc}
+use mathlib.Core.Path.{_≡_, refl, sym, ap, ap₂, _∙_}
+use mathlib.Core.List.{List, [], _∷_, _++_, append-assoc, append-nil}
 use Prim.Native.Nat.{ℕ, zero, suc, _+_, _-_, _≤_, _<_}
+use native.Mathlib.Nat.{le-of-eq, zero-add, add-zero, add-suc, suc-add}
 use native.Mathlib.Omega.{arith}
-use lib.ListN.{length, getD, take, drop, set, length-append, length-drop, take-append-drop}
-use lib.Seq.{drop-cons, drop-drop, drop-append-add, set-at, append-snoc, take-at, drop-append-le, length-take-le}
+use lib.ListN.{length, getD, take, drop, set, length-append, length-drop, take-append-drop, drop-of-length-le}
+use lib.Seq.{sets, sets-eq, drop-cons, drop-drop, drop-append-add, set-at, append-snoc, take-all, take-at, drop-at, drop-append-le, length-take-le}
+use borrow.Rule.Slice.PartMut.{midOf, putMid}
 use Rattle.refusal.specs.After.{granted, overwrite, after}
 
 module _ {A : Type 0} where
@@ -73,3 +75,34 @@ module _ {A : Type 0} where
       let here : i < length old = omega arith in
       let next : length (new ++ x ∷ []) ≡ i + 1 = simp length-append (omega arith) in
       rw (store-one new old i x size here, store-one (new ++ x ∷ []) old (i + 1) y next room, append-assoc new (x ∷ []) (y ∷ []))
+
+  -- the slice from the end of the new entries on, overwritten in its turn and put back
+  pub overwrite-more : (new more old current last : List A) (a : ℕ) → length new ≡ a → a ≤ length old → current ≡ overwrite new old
+      → last ≡ overwrite more (midOf a (length current - a) current)
+      → putMid a (length current - a) current last ≡ overwrite (new ++ more) old
+  unfolding overwrite
+  overwrite-more new more old current last a size room isCurrent isLast =
+      let head : take a current ≡ new = ap (take a) isCurrent ∙ take-at new (drop (length new) old) a size in
+      let tail : drop a current ≡ drop a old = ap (drop a) isCurrent ∙ drop-at new (drop (length new) old) a size ∙ ap (λ (k : ℕ). drop k old) size in
+      let all : midOf a (length current - a) current ≡ drop a current =
+      take-all (length current - a) (drop a current) (le-of-eq (length-drop a current))
+      in
+      let none : drop (length current - a) (drop a current) ≡ [] = drop-of-length-le (drop a current) (le-of-eq (length-drop a current)) in
+      let count : a + length more ≡ length (new ++ more) = omega (arith, length-append new more) in
+      ap₂ (λ (x y : List A). x ++ y) head
+      (ap (λ (end : List A). last ++ end) none
+      ∙ append-nil last
+      ∙ isLast
+      ∙ ap (overwrite more) (all ∙ tail)
+      ∙ ap (λ (rest : List A). more ++ rest) (drop-drop (length more) a old))
+      ∙ sym (append-assoc new more (drop (a + length more) old))
+      ∙ ap (λ (k : ℕ). (new ++ more) ++ drop k old) count
+
+  -- entries stored behind others, and from the first on
+  pub sets-append : (old : List A) (at : ℕ) (xs ys : List A) → sets (sets old at xs) (at + length xs) ys ≡ sets old at (xs ++ ys)
+  sets-append old at [] ys = rw add-zero
+  sets-append old at (x ∷ xs) ys = rw (add-suc, ← suc-add at) (sets-append (set old at x) (suc at) xs ys)
+
+  pub sets-start : (new old : List A) → length new ≤ length old → sets old 0 new ≡ overwrite new old
+  unfolding overwrite
+  sets-start new old fits = sets-eq new old 0 (rw zero-add fits) ∙ ap (λ (k : ℕ). new ++ drop k old) (zero-add (length new))

@@ -1,43 +1,20 @@
 -- The row walk: a pair stored behind the pairs of the rows before it gives those of one row more, and the rows of a block behind
 -- those of the nodes before them give those of the block's nodes too. Assumes nothing.
-use mathlib.Core.Path.{_≡_, refl, sym, ap, ap₂, _∙_}
+use mathlib.Core.Path.{_≡_, refl, sym, ap, _∙_}
 use Prim.Native.Nat.{ℕ, _+_, _-_, _*_, min, _≤_, _<_}
-use native.Mathlib.Nat.{lt-of-lt-of-le, le-of-eq}
+use native.Mathlib.Nat.{lt-of-lt-of-le}
 use native.Mathlib.Omega.{arith}
-use mathlib.Core.List.{List, [], _++_, append-assoc, append-nil}
-use lib.ListN.{length, take, drop, length-append, length-drop, drop-of-length-le}
-use lib.Seq.{drop-drop, take-all, take-at, drop-at, length-take-le}
+use mathlib.Core.List.{List, _++_}
+use lib.ListN.{length}
 use borrow.Rule.Slice.PartMut.{midOf, putMid}
 use Rattle.refusal.specs.After.{overwrite}
-use Rattle.refusal.proofs.After.{length-overwrite, store-two}
+use Rattle.refusal.proofs.After.{length-overwrite, overwrite-more, store-two}
 use Rattle.sheet.specs.Below.{joined}
 use Rattle.sheet.specs.Block.{wordAt, blockAt}
 use Rattle.sheet.specs.Layout.{blockRows, rowWord, nodeBlock, nodeWord, rowsIn}
 use Rattle.sheet.specs.Read.{nodePair}
 use Rattle.sheet.specs.Steps.{rowPair, storePair}
 use Rattle.sheet.proofs.Below.{joined-more, joined-add, joined-cong, length-joined}
-
--- the slice from the end of the new entries on, overwritten in its turn and put back
-pub overwrite-more : (new more old current last : List ℕ) (a : ℕ) → length new ≡ a → a ≤ length old → current ≡ overwrite new old
-    → last ≡ overwrite more (midOf a (length current - a) current)
-    → putMid a (length current - a) current last ≡ overwrite (new ++ more) old
-unfolding overwrite
-overwrite-more new more old current last a size room isCurrent isLast =
-    let head : take a current ≡ new = ap (take a) isCurrent ∙ take-at new (drop (length new) old) a size in
-    let tail : drop a current ≡ drop a old = ap (drop a) isCurrent ∙ drop-at new (drop (length new) old) a size ∙ ap (λ (k : ℕ). drop k old) size in
-    let all : midOf a (length current - a) current ≡ drop a current =
-    take-all (length current - a) (drop a current) (le-of-eq (length-drop a current))
-    in
-    let none : drop (length current - a) (drop a current) ≡ [] = drop-of-length-le (drop a current) (le-of-eq (length-drop a current)) in
-    let count : a + length more ≡ length (new ++ more) = omega (arith, length-append new more) in
-    ap₂ (λ (x y : List ℕ). x ++ y) head
-    (ap (λ (end : List ℕ). last ++ end) none
-    ∙ append-nil last
-    ∙ isLast
-    ∙ ap (overwrite more) (all ∙ tail)
-    ∙ ap (λ (rest : List ℕ). more ++ rest) (drop-drop (length more) a old))
-    ∙ sym (append-assoc new more (drop (a + length more) old))
-    ∙ ap (λ (k : ℕ). (new ++ more) ++ drop k old) count
 
 module _ (block : List ℕ) (j : ℕ) (old : List ℕ) where
   pub length-pairs : (k : ℕ) → length (joined k (rowPair block j)) ≡ 2 * k
@@ -99,6 +76,3 @@ rows-end n b h = omega arith
 
 pub fewer-left : (n r k : ℕ) → r < n → 0 < k → n - (r + k) < n - r
 fewer-left n r k h some = omega arith
-
-pub length-rest : (l : List ℕ) (a : ℕ) → length (midOf a (length l - a) l) ≡ length l - a
-length-rest l a = length-take-le (length l - a) (drop a l) (le-of-eq (sym (length-drop a l)))

@@ -9,6 +9,7 @@ use lib.Seq.{take-suc, take-all, getD-at}
 use Rattle.sheet.specs.Below.{total, joined}
 use Rattle.sheet.specs.Block.{blockWords, wordLimit, closingPlace, wordAt, bytesOf, wordSum, closing}
 use Rattle.sheet.specs.File.{padded, closed, EachBelow}
+use Rattle.sheet.specs.Steps.{pairOf}
 use Rattle.sheet.proofs.Below.{total-more, total-cong}
 
 pub length-bytes : (words : List ℕ) → length (bytesOf words) ≡ 2 * length words
@@ -104,7 +105,7 @@ module _ (words : List ℕ) (fits : length words ≤ closingPlace) where
       ∙ omega (arith, total-more closingPlace (wordAt block))
 
 -- the pairs of a list, joined
-pairs-take : (n : ℕ) (l : List ℕ) → 2 * n ≤ length l → joined n (λ r. getD l (2 * r) 0 ∷ getD l (2 * r + 1) 0 ∷ []) ≡ take (2 * n) l
+pairs-take : (n : ℕ) (l : List ℕ) → 2 * n ≤ length l → joined n (pairOf l) ≡ take (2 * n) l
 unfolding joined
 pairs-take zero l h = refl
 pairs-take (suc n) l h =
@@ -113,5 +114,5 @@ pairs-take (suc n) l h =
     rw (pairs-take n l (omega arith), two, second, take-suc l (suc (2 * n)) 0 (omega arith), take-suc l (2 * n) 0 (omega arith))
     (sym (append-assoc (take (2 * n) l) (getD l (2 * n) 0 ∷ []) (getD l (suc (2 * n)) 0 ∷ [])))
 
-pub pairs-joined : (n : ℕ) (l : List ℕ) → length l ≡ 2 * n → joined n (λ r. getD l (2 * r) 0 ∷ getD l (2 * r + 1) 0 ∷ []) ≡ l
+pub pairs-joined : (n : ℕ) (l : List ℕ) → length l ≡ 2 * n → joined n (pairOf l) ≡ l
 pairs-joined n l h = pairs-take n l (le-of-eq (sym h)) ∙ take-all (2 * n) l (le-of-eq h)

@@ -12,6 +12,7 @@ use Rattle.sheet.specs.Block.{blockBytes, closingPlace, wordAt, bytesOf,
 use Rattle.sheet.specs.Layout.{blockRows, rowWords, blocksFor, nodeBlock, nodeWord, rowsIn, countWord, usedWords, fixedHold, laidOut}
 use Rattle.sheet.specs.Read.{nodePair}
 use Rattle.sheet.specs.File.{row, content, padded, closed, blockOf, fileOf}
+use Rattle.sheet.specs.Steps.{pairOf}
 use Rattle.sheet.proofs.Below.{split, every-holds, joined-cong, length-joined, joined-at, getD-joined}
 use Rattle.sheet.proofs.Fixed.{used-agrees, unused}
 use Rattle.sheet.proofs.Words.{length-bytes, word-bytes, length-closed, getD-closed, closed-sound}
@@ -93,11 +94,11 @@ module _ (n separation : ℕ) (table tapes : List ℕ) where
         ∙ getD-joined rowWords (λ i. row table tapes (blockRows * b + i)) (λ k. refl) (rowsIn n b) (r % blockRows) j (omega arith) field
         ∙ ap (λ (node : ℕ). getD (row table tapes node) j 0) whole)
 
-  pub links-read : (r : ℕ) → r < n → nodePair file 0 r ≡ getD table (2 * r) 0 ∷ getD table (2 * r + 1) 0 ∷ []
+  pub links-read : (r : ℕ) → r < n → nodePair file 0 r ≡ pairOf table r
   unfolding row
   links-read r node = ap₂ (λ (x y : ℕ). x ∷ y ∷ []) (row-read r 0 node (omega arith) _ refl) (row-read r 1 node (omega arith) _ (omega arith))
 
-  pub tape-read : (r : ℕ) → r < n → nodePair file 2 r ≡ getD tapes (2 * r) 0 ∷ getD tapes (2 * r + 1) 0 ∷ []
+  pub tape-read : (r : ℕ) → r < n → nodePair file 2 r ≡ pairOf tapes r
   unfolding row
   tape-read r node = ap₂ (λ (x y : ℕ). x ∷ y ∷ []) (row-read r 2 node (omega arith) _ refl) (row-read r 3 node (omega arith) _ (omega arith))
 

@@ -46,9 +46,13 @@ wordSum count block = total count (wordAt block) % wordLimit
 unfoldable pub sound : List ℕ → Bool
 sound block = eqb (wordSum blockWords block) 0
 
+-- the word that brings a sum to zero
+abbrev pub closes : ℕ → ℕ
+closes sum = (wordLimit - sum) % wordLimit
+
 -- the word that closes the sum over the words before it
 unfoldable pub closing : List ℕ → ℕ
-closing words = (wordLimit - total closingPlace (λ k. getD words k 0) % wordLimit) % wordLimit
+closing words = closes (total closingPlace (λ k. getD words k 0) % wordLimit)
 
 -- a block's first word is its place
 unfoldable pub inPlace : ℕ → List ℕ → Bool

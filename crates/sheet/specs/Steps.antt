@@ -1,8 +1,8 @@
 -- What the reader's inner steps promise.
 use Prim.Native.Nat.{ℕ, _+_, _*_}
 use mathlib.Core.Path.{_≡_}
-use mathlib.Core.List.{List}
-use lib.ListN.{length, set}
+use mathlib.Core.List.{List, [], _∷_}
+use lib.ListN.{length, getD, set}
 use Rattle.refusal.specs.After.{overwrite}
 use Rattle.sheet.specs.Below.{joined}
 use Rattle.sheet.specs.Block.{blockBytes, blockAt}
@@ -17,6 +17,10 @@ pub record IsBlock (file : List ℕ) (b : ℕ) (part : List ℕ) : Type 0 where
 -- words j and j + 1 of row i of a block
 abbrev pub rowPair : List ℕ → ℕ → ℕ → List ℕ
 rowPair block j i = pairAt block (rowWord i + j)
+
+-- the pair of entries numbered r
+abbrev pub pairOf : List ℕ → ℕ → List ℕ
+pairOf entries r = getD entries (2 * r) 0 ∷ getD entries (2 * r + 1) 0 ∷ []
 
 -- a slice after the pair numbered r is stored in it
 abbrev pub storePair : List ℕ → ℕ → ℕ → ℕ → List ℕ

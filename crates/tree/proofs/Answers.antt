@@ -30,7 +30,7 @@ module _ (t out : List ℕ) where
 
   pub mirror-refused : (k : ℕ) → k ≡ tableNumber t → (k ≡ 0 → ⊥) → Mirror t out k out
   unfolding mirrorNumber
-  mirror-refused k e d = refused k (table-refused t _ (λ z. d (e ∙ z)) ∙ sym e) d
+  mirror-refused k e d = refused k (table-refused t _ k e d) d
 
   module _ (accepted : tableNumber t ≡ 0) where
     mirrored-length : length (mirrored t) ≡ length t
@@ -59,7 +59,7 @@ module _ (t out map : List ℕ) where
 
   pub renumber-refused : (k : ℕ) → k ≡ tableNumber t → (k ≡ 0 → ⊥) → Renumber t out map k out map
   unfolding renumberNumber
-  renumber-refused k e d = refused₂ k (table-refused t _ (λ z. d (e ∙ z)) ∙ sym e) d
+  renumber-refused k e d = refused₂ k (table-refused t _ k e d) d
 
   module _ (accepted : tableNumber t ≡ 0) where
     renumbered-length : length (renumbered t) ≡ length t

@@ -23,19 +23,19 @@ accepted t = (first-none (tableConditions t) (omega arith), none-first (tableCon
 -- ---- and then an operation's own conditions
 
 module _ (t : List ℕ) (own : List Condition) where
-  pub table-refused : (tableNumber t ≡ 0 → ⊥) → first (tableConditions t ++ own) ≡ tableNumber t
+  pub table-refused : (k : ℕ) → k ≡ tableNumber t → (k ≡ 0 → ⊥) → first (tableConditions t ++ own) ≡ k
   unfolding tableNumber
-  table-refused h = first-refused (tableConditions t) own h
+  table-refused k e d = first-refused (tableConditions t) own (λ z. d (e ∙ z)) ∙ sym e
 
   pub table-passed : tableNumber t ≡ 0 → first (tableConditions t ++ own) ≡ first own
   table-passed e = first-passed (tableConditions t) own (accepted t .0 e)
 
   pub table-first : first (tableConditions t ++ own) ≡ 0 → tableNumber t ≡ 0
-  table-first e = go (tableNumber t) table-refused
+  table-first e = go (tableNumber t) refl
     where
-      go : (k : ℕ) → ((k ≡ 0 → ⊥) → first (tableConditions t ++ own) ≡ k) → k ≡ 0
-      go zero h = refl
-      go (suc k) h = sym (h (λ z. omega arith)) ∙ e
+      go : (k : ℕ) → k ≡ tableNumber t → tableNumber t ≡ 0
+      go zero h = sym h
+      go (suc k) h = sym h ∙ sym (table-refused (suc k) h (λ z. omega arith)) ∙ e
 
 -- ---- one by one
 

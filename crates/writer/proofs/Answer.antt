@@ -22,7 +22,7 @@ module _ (table : List ℕ) (D : ℕ) (tapes out : List ℕ) where
 
   pub number-table : (k : ℕ) → k ≡ tableNumber table → (k ≡ 0 → ⊥) → k ≡ writeNumber table D tapes out
   unfolding writeNumber
-  number-table k e d = e ∙ sym (table-refused table (ownConditions table D tapes out) (λ z. d (e ∙ z)))
+  number-table k e d = sym (table-refused table (ownConditions table D tapes out) k e d)
 
   number-later : tableNumber table ≡ 0 → writeNumber table D tapes out ≡ first (ownConditions table D tapes out)
   unfolding writeNumber

@@ -6,7 +6,7 @@ use native.Mathlib.Omega.{arith}
 use mathlib.Core.List.{List, [], _∷_}
 use lib.ListN.{length, getD, replicate}
 use Rattle.sheet.specs.Below.{total}
-use Rattle.sheet.specs.Block.{blockBytes, wordLimit, closingPlace, wordAt, wordSum, closing}
+use Rattle.sheet.specs.Block.{blockBytes, wordLimit, closingPlace, wordAt, wordSum, closes, closing}
 use Rattle.sheet.specs.File.{padded, closed}
 use Rattle.sheet.proofs.Below.{total-cong}
 use Rattle.sheet.proofs.Words.{length-padded, length-closed}
@@ -29,7 +29,7 @@ module _ (words old : List ℕ) (fits : length words ≤ closingPlace) (room : b
       ap (λ (block : List ℕ). wordAt block k) (stored-start (padded words) old (omega arith))
       ∙ word-stored (padded words) old k (lt-of-lt-of-le l (le-of-eq (sym size))))
       in
-      ap (λ (sum : ℕ). (wordLimit - sum % wordLimit) % wordLimit) same
+      ap (λ (sum : ℕ). closes (sum % wordLimit)) same
 
   pub block-closed : closeBlock (zeroed (length words) (storeWords old 0 words)) ≡ blockOver words old
   unfolding closeBlock blockOver closed

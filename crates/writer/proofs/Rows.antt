@@ -6,8 +6,9 @@ use mathlib.Core.List.{List, [], _∷_, _++_, append-assoc}
 use lib.ListN.{length, replicate, length-append, length-replicate, replicate-append-replicate}
 use Rattle.sheet.specs.Layout.{firstWord, rowWords, rowWord}
 use Rattle.sheet.specs.File.{row}
+use Rattle.sheet.specs.Steps.{pairOf}
 use Rattle.sheet.proofs.Below.{joined-more, length-joined}
-use Rattle.writer.specs.Steps.{storeWords, pairOf, rowsFrom}
+use Rattle.writer.specs.Steps.{storeWords, rowsFrom}
 use Rattle.writer.proofs.Stored.{stored-next}
 
 module _ (table tapes : List ℕ) (first : ℕ) where

@@ -1,13 +1,13 @@
 -- Words stored in a block one after the other: at its start they are its first words. Assumes nothing.
-use mathlib.Core.Path.{_≡_, refl, sym, ap, _∙_}
-use Prim.Native.Nat.{ℕ, suc, _+_, _*_, _/_, _%_, _≤_, _<_}
-use native.Mathlib.Nat.{zero-add}
+use mathlib.Core.Path.{_≡_, refl, _∙_}
+use Prim.Native.Nat.{ℕ, _+_, _*_, _/_, _%_, _≤_, _<_}
 use native.Mathlib.Numerals.{add-one}
 use native.Mathlib.Omega.{arith}
 use mathlib.Core.List.{List, [], _∷_, _++_}
 use lib.ListN.{length, getD, set, drop, List·getD-append}
-use lib.Seq.{sets, length-sets, sets-eq}
+use lib.Seq.{length-sets}
 use Rattle.refusal.specs.After.{overwrite}
+use Rattle.refusal.proofs.After.{sets-append, sets-start}
 use Rattle.sheet.specs.Block.{wordAt, bytesOf}
 use Rattle.sheet.proofs.Words.{length-bytes, word-bytes}
 use Rattle.writer.specs.Steps.{storeWords}
@@ -20,10 +20,6 @@ bytes-append [] more = refl
 bytes-append (w ∷ words) more = rw (bytes-append words more)
 
 -- ---- stores
-
-sets-append : (l : List ℕ) (i : ℕ) (xs ys : List ℕ) (j : ℕ) → j ≡ i + length xs → sets (sets l i xs) j ys ≡ sets l i (xs ++ ys)
-sets-append l i [] ys j e = let same : j ≡ i = omega arith in rw same
-sets-append l i (x ∷ xs) ys j e = sets-append (set l i x) (suc i) xs ys j (omega arith)
 
 module _ (block : List ℕ) (k : ℕ) where
   pub store-none : storeWords block k [] ≡ block
@@ -43,8 +39,8 @@ module _ (block : List ℕ) (k : ℕ) where
   pub store-more : (words more : List ℕ) (j : ℕ) → j ≡ k + length words → storeWords (storeWords block k words) j more ≡ storeWords block k (words ++ more)
   unfolding storeWords
   store-more words more j e =
-      sets-append block (2 * k) (bytesOf words) (bytesOf more) (2 * j) (omega (arith, length-bytes words))
-      ∙ ap (sets block (2 * k)) (sym (bytes-append words more))
+      let behind : 2 * j ≡ 2 * k + length (bytesOf words) = omega (arith, length-bytes words) in
+      rw (behind, bytes-append) (sets-append block (2 * k) (bytesOf words) (bytesOf more))
 
   pub stored-next : (words more current last : List ℕ) (j : ℕ) → j ≡ k + length words → current ≡ storeWords block k words
       → last ≡ storeWords current j more
@@ -53,9 +49,8 @@ module _ (block : List ℕ) (k : ℕ) where
 
 -- words stored from the first on
 pub stored-start : (words old : List ℕ) → 2 * length words ≤ length old → storeWords old 0 words ≡ overwrite (bytesOf words) old
-unfolding storeWords overwrite
-stored-start words old room =
-    sets-eq (bytesOf words) old 0 (omega (arith, length-bytes words)) ∙ ap (λ (k : ℕ). bytesOf words ++ drop k old) (zero-add (length (bytesOf words)))
+unfolding storeWords
+stored-start words old room = sets-start (bytesOf words) old (omega (arith, length-bytes words))
 
 -- and read
 pub word-stored : (words old : List ℕ) (k : ℕ) → k < length words → wordAt (overwrite (bytesOf words) old) k ≡ getD words k 0

@@ -1,22 +1,18 @@
 -- What the writer's inner steps promise.
-use Prim.Native.Nat.{ℕ, _+_, _-_, _*_, _%_}
+use Prim.Native.Nat.{ℕ, _+_, _-_, _*_}
 use mathlib.Core.Path.{_≡_}
 use mathlib.Core.List.{List, [], _∷_}
-use lib.ListN.{length, getD, replicate}
+use lib.ListN.{length, replicate}
 use lib.Seq.{sets}
 use Rattle.refusal.specs.After.{overwrite}
 use Rattle.sheet.specs.Below.{joined}
-use Rattle.sheet.specs.Block.{wordLimit, closingPlace, bytesOf, wordSum}
+use Rattle.sheet.specs.Block.{closingPlace, bytesOf, wordSum, closes}
 use Rattle.sheet.specs.File.{row, padded, closed}
 use Rattle.writer.specs.Write.{sheetFile}
 
 -- a block after words are stored in it, from word k on
 unfoldable pub storeWords : List ℕ → ℕ → List ℕ → List ℕ
 storeWords block k words = sets block (2 * k) (bytesOf words)
-
--- the pair of entries numbered r
-abbrev pub pairOf : List ℕ → ℕ → List ℕ
-pairOf entries r = getD entries (2 * r) 0 ∷ getD entries (2 * r + 1) 0 ∷ []
 
 -- the rows of nodes, from node `first` on
 abbrev pub rowsFrom : List ℕ → List ℕ → ℕ → ℕ → List ℕ
@@ -28,7 +24,7 @@ zeroed used block = storeWords block used (replicate (closingPlace - used) 0)
 
 -- the word that closes a block's sum
 abbrev pub closingWord : List ℕ → ℕ
-closingWord block = (wordLimit - wordSum closingPlace block) % wordLimit
+closingWord block = closes (wordSum closingPlace block)
 
 -- a block closed
 unfoldable pub closeBlock : List ℕ → List ℕ

@@ -2,15 +2,17 @@
 -- `start` its first byte, and the output starts with the blocks before it. Assumes nothing.
 use mathlib.Core.Path.{_≡_, refl, ap, _∙_}
 use Prim.Native.Nat.{ℕ, _+_, _-_, _*_, min, _≤_, _<_}
+use native.Mathlib.Nat.{le-refl}
 use native.Mathlib.Omega.{arith}
 use mathlib.Core.List.{List}
 use lib.ListN.{length}
+use borrow.Rule.Slice.PartMut.{mid-len}
 use Rattle.refusal.specs.After.{overwrite}
 use Rattle.tree.specs.Table.{nodes}
 use Rattle.tree.proofs.Stands.{accepted-numbers, accepted-length}
 use Rattle.sheet.specs.Block.{blockBytes}
 use Rattle.sheet.specs.Layout.{blockRows, blocksFor}
-use Rattle.sheet.proofs.Walk.{some-rows, fewer-left, length-rest}
+use Rattle.sheet.proofs.Walk.{some-rows, fewer-left}
 use Rattle.sheet.proofs.Written.{length-file}
 use Rattle.writer.proofs.Blocks.{front, length-written, blocks-begun, block-more, blocks-ended}
 use Rattle.writer.proofs.write_blocks.Statement.{statement}
@@ -92,7 +94,7 @@ write-block-requires c κs =
     let head = c .before .before .before in
     let s = start head in
     let rows = c .before .rows-in .ensures in (
-      (omega (arith, few s), omega (arith, room s, same-size head, length-rest (head .loop .out) (head .loop .start)), omega arith),
+      (omega (arith, few s), omega (arith, room s, same-size head, mid-len (head .loop .start) (length (head .loop .out)) (head .loop .out) (le-refl _)), omega arith),
       (omega (arith, even s), omega (arith, s .pre)),
     )
 

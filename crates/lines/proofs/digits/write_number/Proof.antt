@@ -6,7 +6,7 @@ use lib.ListN.{length, set, length-append}
 use lib.Seq.{sets}
 use Rattle.lines.specs.Decimal.{decimal}
 use Rattle.lines.specs.Steps.{digits}
-use Rattle.lines.proofs.Put.{sets-append}
+use Rattle.refusal.proofs.After.{sets-append}
 use Rattle.lines.proofs.Decimal.{digits-all}
 use native.Mathlib.Omega.{arith}
 use borrow.Author.Needs.{needs}

@@ -2,13 +2,15 @@
 -- start with the pairs of the nodes before it. Assumes nothing.
 use mathlib.Core.Path.{_≡_, refl, ap, _∙_}
 use Prim.Native.Nat.{_-_, _*_, min, _<_}
+use native.Mathlib.Nat.{le-refl}
 use native.Mathlib.Omega.{arith}
 use lib.ListN.{length}
+use borrow.Rule.Slice.PartMut.{mid-len}
 use Rattle.refusal.specs.After.{overwrite}
 use Rattle.sheet.specs.Below.{joined}
 use Rattle.sheet.specs.Layout.{blockRows}
 use Rattle.sheet.specs.Read.{tableOf, tapesOf}
-use Rattle.sheet.proofs.Walk.{length-read, read-more, some-rows, rows-end, fewer-left, length-rest}
+use Rattle.sheet.proofs.Walk.{length-read, read-more, some-rows, rows-end, fewer-left}
 use Rattle.sheet.proofs.rows.read_rows.Statement.{statement}
 use Rattle.sheet.proofs.rows.read_rows.Tie as tie
 
@@ -82,8 +84,8 @@ read-block-requires c κs =
     let few = c .before .before .before .rows-in .ensures in (
       ((c .before .before .block-at .ensures .size, omega arith)),
       (
-        omega (arith, first-of (c .before .before .before .before), table-length head, length-rest (head .loop .table) start),
-        omega (arith, first-of (c .before .before .before .before), tapes-length head, length-rest (head .loop .tapes) start),
+        omega (arith, first-of (c .before .before .before .before), table-length head, mid-len start (length (head .loop .table)) (head .loop .table) (le-refl _)),
+        omega (arith, first-of (c .before .before .before .before), tapes-length head, mid-len start (length (head .loop .tapes)) (head .loop .tapes) (le-refl _)),
       ),
     )
 
