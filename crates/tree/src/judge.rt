@@ -75,8 +75,9 @@ fn push(order: &mut [u16], low: usize, e: u16) -> usize
     low - 1
 }
 
-// Visits the nodes reached from node 0, each parent before its children's subtrees. The nodes visited stand at the front of `order`,
-// and those still to be visited on a stack at its end.
+// Visits the nodes reached from node 0, each parent before its children's subtrees. From a node the way goes on to its first child, or else
+// to its next sibling, or else to the node on the top of the stack. The nodes visited stand at the front of `order`, and those next siblings
+// that are still to be visited on a stack at its end.
 fn preorder(table: &[u16], order: &mut [u16]) -> usize
     requires { ⌜ Passed (now table) ⌝ }
     requires { ⌜ length (now order) ≡ nodes (now table) ⌝ }
@@ -87,14 +88,21 @@ fn preorder(table: &[u16], order: &mut [u16]) -> usize
     let mut low = n - 1;
     let mut count: usize = 0;
     while low < n {
-        let v = order[low];
-        let row = 2 * (v as usize);
-        let child = table[row];
-        let sibling = table[row + 1];
-        order[count] = v;
-        count += 1;
-        low = push(order, low + 1, sibling);
-        low = push(order, low, child);
+        let mut v = order[low];
+        low += 1;
+        while v != 65535 {
+            let row = 2 * (v as usize);
+            let child = table[row];
+            let sibling = table[row + 1];
+            order[count] = v;
+            count += 1;
+            if child == 65535 {
+                v = sibling;
+            } else {
+                low = push(order, low, sibling);
+                v = child;
+            }
+        }
     }
     count
 }
