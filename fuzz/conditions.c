@@ -21,6 +21,22 @@ static int names_too_often(const uint16_t *table, size_t len)
     return 0;
 }
 
+static int leaves_unnamed(const uint16_t *table, size_t len)
+{
+    int named[MOST_NODES] = {1}; /* the root need not be named */
+    for (size_t i = 0; i < len; i++) {
+        if (table[i] != NONE) {
+            named[table[i]] = 1;
+        }
+    }
+    for (size_t node = 0; node < len / 2; node++) {
+        if (!named[node]) {
+            return 1;
+        }
+    }
+    return 0;
+}
+
 static int leaves_unreached(const uint16_t *table, size_t len)
 {
     int reached[MOST_NODES] = {1};
@@ -44,7 +60,8 @@ unsigned table_number(const uint16_t *table, size_t len)
            : names_beyond(table, len)                       ? 2
            : table[1] != NONE                               ? 3
            : names_too_often(table, len)                    ? 4
-           : leaves_unreached(table, len)                   ? 5
+           : leaves_unnamed(table, len)                     ? 5
+           : leaves_unreached(table, len)                   ? 14
                                                             : 0;
 }
 

@@ -6,13 +6,13 @@
 
 #include "../reference/c/levels.h"
 
-/* The first of the conditions 1 to 5 that holds of a table, or 0. */
+/* The first of the conditions 1 to 5 and 14 that holds of a table, or 0. */
 unsigned table_number(const uint16_t *table, size_t len);
 
 /* The first of 9 to 12 and 7 that holds, or 0. */
 unsigned sheet_number(const uint8_t *file, size_t bytes, size_t table_len, size_t tapes_len);
 
-/* The first of 1 to 6, 13 and 7 that holds of a sheet to be written, or 0. */
+/* The first of 1 to 5, 14, 6, 13 and 7 that holds of a sheet to be written, or 0. */
 unsigned write_number(const uint16_t *table, size_t len, uint16_t separation, size_t tapes_len,
                       size_t out_len);
 

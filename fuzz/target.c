@@ -20,11 +20,13 @@
 #include <string.h>
 
 enum {
-    TREE = 1,        /* the rest is a well-formed tree, and a file is the sheet of that tree */
-    TURNED = 2,      /* the tree's nodes but the root are numbered from the last */
-    DAMAGED = 4,     /* an entry, or a word of the file, is replaced */
-    CLOSED = 8,      /* then every block's sum is made zero */
-    AFTER_GUARD = 16 /* the slices start after a guarded page, and do not end at one */
+    TREE = 1,         /* the rest is a well-formed tree, and a file is the sheet of that tree */
+    TURNED = 2,       /* the tree's nodes but the root are numbered from the last */
+    DAMAGED = 4,      /* an entry, or a word of the file, is replaced */
+    CLOSED = 8,       /* then every block's sum is made zero */
+    AFTER_GUARD = 16, /* the slices start after a guarded page, and do not end at one */
+    CUT = 32,         /* before any damage, a part of the tree is cut off as a stray */
+    RING = 64         /* with CUT: parts of it are joined to rings instead */
 };
 
 enum { HEAD = 12, MOST_ENTRIES = (MOST_FILE + BLOCK_BYTES) / 2 };
@@ -78,6 +80,9 @@ static size_t tree_of(const struct input *input, uint16_t *table)
         *(table[2 * under] == NONE ? &table[2 * under] : &table[2 * last[above] + 1]) = number;
         last[above] = number;
         parent[node] = (uint16_t)above;
+    }
+    if ((input->bits & CUT) && nodes > 1) {
+        damage_tree(table, nodes, input->bits & RING ? 14 : 5);
     }
     return 2 * nodes;
 }
@@ -361,7 +366,7 @@ int LLVMFuzzerTestOneInput(const uint8_t *data, size_t size)
         .rest_len = size - HEAD,
     };
     memcpy(input.slack, data + 4, 4);
-    /* What the slices hold, and a sheet's tapes, hang on the input alone. */
+    /* What is cut off, what the slices hold, and a sheet's tapes hang on the input alone. */
     seed_random(input.separation + 65536 * (uint64_t)size);
     take_back(input.bits & AFTER_GUARD ? AT_START : AT_END);
     unsigned operation = data[0] % 7;

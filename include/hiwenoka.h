@@ -15,7 +15,7 @@
  *    2  an entry of the table is neither 65535 nor below n
  *    3  node 0 has a next sibling
  *    4  some node is named by more than one entry, or node 0 by any
- *    5  some node is not reached from node 0
+ *    5  some node other than 0 is named by no entry: look for the tape that no other names
  *    6  the separation is not in 1 to 1024
  *    7  a slice that is to be written is too short
  *    8  the working slice is too short
@@ -25,6 +25,10 @@
  *   12  n or D is not in 1 to 1024, the file's length is not that of n, or a word that the file's
  *       layout fixes differs
  *   13  the slice of tape numbers is too short
+ *   14  none of 1 to 5 holds, and some node is not reached from node 0: look for tapes that are
+ *       copies of each other in a circle
+ *
+ * A function tries its conditions in the order in which it names them.
  */
 
 #ifndef HIWENOKA_H
@@ -37,17 +41,17 @@
 extern "C" {
 #endif
 
-/* Judges a table: 0 to 5. Writes n to nodes. */
+/* Judges a table: 0 to 5, 14. Writes n to nodes. */
 uint16_t hiwenoka_check_table(const uint16_t *table, size_t table_len, uint16_t *nodes);
 
 /*
- * Lays a tree out: 0 to 5; 6; 7 if places or levels has fewer than n entries or record fewer than
- * 2n; 8 if work has fewer than 16n. Writes each node's place to the first n entries of places and
- * its level to the first n of levels, by node number, and the pairs of neighbours, left node first,
- * to the first 2 * pairs entries of record: level by level from the top, left to right on each
- * level. The first 16n entries of work, whatever they held, are 0 afterwards. Writes n to nodes, the
- * count of levels to level_count, the least and the greatest place to least and greatest, and the
- * count of pairs to pairs.
+ * Lays a tree out: 0 to 5, 14; 6; 7 if places or levels has fewer than n entries or record fewer
+ * than 2n; 8 if work has fewer than 16n. Writes each node's place to the first n entries of places
+ * and its level to the first n of levels, by node number, and the pairs of neighbours, left node
+ * first, to the first 2 * pairs entries of record: level by level from the top, left to right on
+ * each level. The first 16n entries of work, whatever they held, are 0 afterwards. Writes n to
+ * nodes, the count of levels to level_count, the least and the greatest place to least and
+ * greatest, and the count of pairs to pairs.
  */
 uint16_t hiwenoka_layout(const uint16_t *table, size_t table_len, uint16_t separation,
                          int32_t *places, size_t places_len,
@@ -58,16 +62,16 @@ uint16_t hiwenoka_layout(const uint16_t *table, size_t table_len, uint16_t separ
                          int32_t *least, int32_t *greatest, uint16_t *pairs);
 
 /*
- * Reverses the children of every node, numbers kept: 0 to 5, or 7 if out has fewer than 2n
+ * Reverses the children of every node, numbers kept: 0 to 5, 14, or 7 if out has fewer than 2n
  * entries. Writes the table of the mirrored tree to the first 2n entries of out.
  */
 uint16_t hiwenoka_mirror(const uint16_t *table, size_t table_len,
                          uint16_t *out, size_t out_len);
 
 /*
- * Numbers the tree parent first, then the children's subtrees left to right: 0 to 5, or 7 if out
- * has fewer than 2n entries or map fewer than n. Writes the new table to the first 2n entries of
- * out and, for each new number, the old one to the first n entries of map.
+ * Numbers the tree parent first, then the children's subtrees left to right: 0 to 5, 14, or 7 if
+ * out has fewer than 2n entries or map fewer than n. Writes the new table to the first 2n entries
+ * of out and, for each new number, the old one to the first n entries of map.
  */
 uint16_t hiwenoka_renumber(const uint16_t *table, size_t table_len,
                            uint16_t *out, size_t out_len,
@@ -85,10 +89,10 @@ uint16_t hiwenoka_read_sheet(const uint8_t *file, size_t file_len,
                              uint16_t *nodes, uint16_t *separation);
 
 /*
- * Writes a sheet file: 0 to 5; 6; 13 if tapes has fewer than 2n entries; 7 if out has fewer bytes
- * than the file: 512, and 512 more for each 63 nodes or part of 63, at most 9216. tapes has each
- * node's tape number, low word then high word, in its first 2n entries; those past them are not
- * looked at. Writes the file to the start of out and its length to bytes.
+ * Writes a sheet file: 0 to 5, 14; 6; 13 if tapes has fewer than 2n entries; 7 if out has fewer
+ * bytes than the file: 512, and 512 more for each 63 nodes or part of 63, at most 9216. tapes has
+ * each node's tape number, low word then high word, in its first 2n entries; those past them are
+ * not looked at. Writes the file to the start of out and its length to bytes.
  */
 uint16_t hiwenoka_write_sheet(const uint16_t *table, size_t table_len, uint16_t separation,
                               const uint16_t *tapes, size_t tapes_len,
@@ -101,7 +105,7 @@ uint16_t hiwenoka_write_sheet(const uint16_t *table, size_t table_len, uint16_t 
  * Reads a sheet file, lays its tree out and writes the text of the listing to out: the line
  * "sheet", n, the count of levels, D, the least and the greatest place; then for each node a line
  * with its number, level, place and tape number. A refusal is only the line "refused" and its
- * number: the first of 9 to 12, and then of 1 to 5. Returns the number of bytes written. Where
+ * number: the first of 9 to 12, and then of 1 to 5, 14. Returns the number of bytes written. Where
  * out has fewer than HIWENOKA_TEXT_ROOM bytes, writes nothing and returns 0.
  */
 size_t hiwenoka_list_sheet(const uint8_t *file, size_t file_len, uint8_t *out, size_t out_len);

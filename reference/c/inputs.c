@@ -61,6 +61,27 @@ static size_t some_entry(const uint16_t *table, size_t nodes, int naming)
     return entry;
 }
 
+/* Cuts off what some entry leads to. The node that it named. */
+static uint16_t cut_off(uint16_t *table, size_t nodes)
+{
+    size_t entry = some_entry(table, nodes, 1);
+    uint16_t cut = table[entry];
+    table[entry] = NONE;
+    return cut;
+}
+
+/* Cuts off what some entry leads to and joins it to a ring: by first children, by next siblings, or
+   mixed. */
+static void join_to_ring(uint16_t *table, size_t nodes)
+{
+    uint16_t first = cut_off(table, nodes), *entry = &first;
+    size_t way = below(3);
+    while (*entry != NONE) {
+        entry = &table[2 * *entry + (way < 2 ? way : below(2))];
+    }
+    *entry = first;
+}
+
 void damage_tree(uint16_t *table, size_t nodes, unsigned number)
 {
     switch (number) {
@@ -73,18 +94,17 @@ void damage_tree(uint16_t *table, size_t nodes, unsigned number)
     case 4: /* every other node is named already */
         table[some_entry(table, nodes, 0)] = (uint16_t)below(nodes);
         break;
-    case 5: {
-        size_t entry = some_entry(table, nodes, 1);
-        uint16_t cut = table[entry], under = cut;
-        table[entry] = NONE;
-        if (below(2) == 0) { /* and joined to a ring */
-            while (table[2 * under] != NONE) {
-                under = table[2 * under];
-            }
-            table[2 * under] = cut;
+    case 5:
+        for (size_t rings = below(3); rings > 0; rings--) {
+            join_to_ring(table, nodes);
+        }
+        cut_off(table, nodes);
+        break;
+    case 14:
+        for (size_t rings = 1 + below(3); rings > 0; rings--) {
+            join_to_ring(table, nodes);
         }
         break;
-    }
     }
 }
 

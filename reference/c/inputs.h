@@ -12,8 +12,8 @@ enum { BLOCK_WORDS = 256, BLOCK_BYTES = 512, BLOCK_ROWS = 63, MOST_FILE = 18 * B
 /* A well-formed table of so many nodes, of some shape, numbered at random but for the root. */
 void make_tree(uint16_t *table, size_t nodes);
 
-/* Damages a well-formed table so that this condition, 2 to 5, is the first that holds. 5 needs two
-   nodes. */
+/* Damages a well-formed table so that this condition, 2 to 5 or 14, is the first that holds. 5 and
+   14 need two nodes; with 5 there may be rings too. */
 void damage_tree(uint16_t *table, size_t nodes, unsigned number);
 
 /* Replaces an entry by any number or, mostly, by one that names a node. */

@@ -1,7 +1,7 @@
 //! Makers of sheet files: sound ones of many trees, damaged ones, and bytes that are no sheet.
 
 use crate::random::Random;
-use crate::shapes::{self, SHAPES};
+use crate::shapes::{self, random_table};
 use crate::sheet::{self, Sheet, BLOCK_BYTES, BLOCK_WORDS, MOST_BLOCKS};
 use crate::table::NONE;
 
@@ -91,22 +91,18 @@ pub fn random_file(table: Vec<u16>, random: &mut Random) -> Vec<u8> {
     sheet::write(&random_sheet(table, random))
 }
 
-/// A well-formed table of any shape, its numbers in any order.
-pub fn random_table(nodes: usize, random: &mut Random) -> Vec<u16> {
-    let shape = &SHAPES[random.below(SHAPES.len())];
-    let table = (shape.make)(nodes, random);
-    shapes::renumbered_at_random(&table, random)
-}
-
 /// A count of nodes, most often a small one.
 pub fn random_size(random: &mut Random) -> usize {
     let greatest = [12, 48, 200, 1_024][random.below(4)];
     random.between(1, greatest)
 }
 
-/// The blocks of a sound file of any tree.
+/// The blocks of a sound file of any tree, now and then of a disconnected one.
 fn random_blocks(nodes: usize, random: &mut Random) -> Vec<Vec<u16>> {
-    let table = random_table(nodes, random);
+    let mut table = random_table(nodes, random);
+    if nodes > 1 && random.once_in(4) {
+        (_, table) = shapes::disconnected(&table, random);
+    }
     sheet::blocks_of(&random_file(table, random))
 }
 
@@ -141,13 +137,14 @@ fn bounds_of_separation(random: &mut Random) -> Vec<Vec<u8>> {
     files
 }
 
-/// One way or more to come to each of the numbers 2 to 5, and tables damaged at random.
+/// One way or more to come to each of the numbers 2 to 5 and 14, and tables damaged at random.
 fn refused_trees(random: &mut Random) -> Vec<Vec<u8>> {
     let mut tables = Vec::new();
+    for nodes in [2, 3, 62, 63, 64, 126, 127, 1_023, 1_024] {
+        let numbered = shapes::strays_and_rings(nodes, random);
+        tables.extend(numbered.into_iter().map(|(_, table)| table));
+    }
     for nodes in [1, 2, 3, 62, 63, 64, 126, 127, 1_023, 1_024] {
-        tables.push(shapes::strays(nodes));
-        tables.push(shapes::ring(nodes));
-        tables.push(shapes::sibling_ring(nodes));
         let last = nodes as u16 - 1;
         for value in [0, last, last + 1, NONE - 1, NONE] {
             for entry in [0, 1, 2 * nodes - 2, 2 * nodes - 1] {
@@ -162,6 +159,11 @@ fn refused_trees(random: &mut Random) -> Vec<Vec<u8>> {
         let table = random_table(nodes, random);
         let count = random.between(1, 4);
         tables.push(shapes::damaged(&table, count, random));
+    }
+    for _ in 0..1_000 {
+        let nodes = random_size(random).max(2);
+        let tree = random_table(nodes, random);
+        tables.push(shapes::disconnected(&tree, random).1);
     }
     tables
         .into_iter()

@@ -158,7 +158,7 @@ pub fn layout(table: &[u16], separation: u16, lent: &Slices) -> LaidOut {
     }
 }
 
-/// The first of the conditions 1 to 8 that holds, or 0.
+/// The first of the conditions 1 to 5, 14 and 6 to 8 that holds, or 0.
 fn layout_refusal(table: &[u16], separation: u16, lent: &Slices) -> u16 {
     let nodes = table.len() / 2;
     if refusal(table) != 0 {
@@ -494,7 +494,8 @@ mod tests {
         assert_eq!(lay_out(&[none; 2], 1_025).number, 6);
         assert_eq!(lay_out(&shapes::chain(1_024), 5).number, 0);
         assert_eq!(lay_out(&shapes::chain(1_025), 5).number, 1);
-        assert_eq!(lay_out(&[none, none, 2, none, 1, none], 5).number, 5);
+        assert_eq!(lay_out(&[none, none, 2, none, 1, none], 5).number, 14);
+        assert_eq!(lay_out(&[none, none, 2, none, 1, none], 0).number, 14);
     }
 
     #[test]

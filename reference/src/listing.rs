@@ -6,7 +6,7 @@ use crate::table::MOST_NODES;
 
 /// The numbers that a listing can give. The reader sees to it that a table has 2n entries and that
 /// n and D are in range, and the slices inside are long enough: 1 and 6 to 8 do not occur.
-pub const NUMBERS: [u16; 9] = [0, 2, 3, 4, 5, 9, 10, 11, 12];
+pub const NUMBERS: [u16; 10] = [0, 2, 3, 4, 5, 9, 10, 11, 12, 14];
 
 /// The bytes for this input.
 pub fn listing(file: &[u8]) -> Vec<u8> {
@@ -144,12 +144,13 @@ mod tests {
 
     #[test]
     fn refusals_of_the_tree_in_a_sound_file() {
-        let cases: [(&[u16], &str); 5] = [
+        let cases: [(&[u16], &str); 6] = [
             (&[2, NONE, NONE, NONE], "refused 2\n"),
             (&[NONE, 1, NONE, NONE], "refused 3\n"),
             (&[1, NONE, NONE, 1], "refused 4\n"),
             (&[0, NONE], "refused 4\n"),
-            (&[NONE, NONE, 2, NONE, 1, NONE], "refused 5\n"),
+            (&[NONE; 4], "refused 5\n"),
+            (&[NONE, NONE, 2, NONE, 1, NONE], "refused 14\n"),
         ];
         for (table, text) in cases {
             expect(&write(&plain(table)), text);

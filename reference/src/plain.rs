@@ -194,9 +194,10 @@ impl<'a> Backwards<'a> {
 #[cfg(test)]
 mod tests {
     use super::*;
-    use crate::files::{random_file, random_table};
+    use crate::files::random_file;
     use crate::listing::listing;
     use crate::random::Random;
+    use crate::shapes::random_table;
 
     #[test]
     fn agrees_with_the_model() {

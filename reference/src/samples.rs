@@ -45,7 +45,8 @@ pub fn samples() -> Vec<Sample> {
         ("damaged-bit", a_bit_flipped()),
         ("damaged-order", blocks_exchanged()),
         ("damaged-header", a_node_too_many()),
-        ("damaged-tree", copies_of_each_other()),
+        ("damaged-stray", an_unnamed_tape()),
+        ("damaged-ring", copies_of_each_other()),
     ];
     good.into_iter()
         .map(|(name, sheet)| (name, sheet::write(&sheet)))
@@ -200,7 +201,14 @@ fn a_node_too_many() -> Vec<u8> {
     sheet::bytes_of(&blocks)
 }
 
-/// A sound file in which tapes 501 and 502 are said to be copies of each other: refused 5.
+/// The example without the entry that names tape 502, sound: refused 5.
+fn an_unnamed_tape() -> Vec<u8> {
+    let mut sheet = sheet::example();
+    sheet.table = vec![1, NONE, NONE, NONE, NONE, NONE];
+    sheet::write(&sheet)
+}
+
+/// A sound file in which tapes 501 and 502 are said to be copies of each other: refused 14.
 fn copies_of_each_other() -> Vec<u8> {
     let mut sheet = sheet::example();
     sheet.table = vec![NONE, NONE, 2, NONE, 1, NONE];
@@ -213,7 +221,7 @@ mod tests {
     use crate::table::{children_of, level_by_level, refusal};
 
     /// The first line of each sample's listing.
-    const FIRST_LINES: [(&str, &str); 13] = [
+    const FIRST_LINES: [(&str, &str); 14] = [
         ("example", "sheet 3 2 3 -1 2"),
         ("p6", "sheet 15 3 4 -18 18"),
         ("p7", "sheet 23 4 2 -12 10"),
@@ -226,7 +234,8 @@ mod tests {
         ("damaged-bit", "refused 10"),
         ("damaged-order", "refused 11"),
         ("damaged-header", "refused 12"),
-        ("damaged-tree", "refused 5"),
+        ("damaged-stray", "refused 5"),
+        ("damaged-ring", "refused 14"),
     ];
 
     #[test]

@@ -4,7 +4,7 @@
 //! A maker of a shape gives exactly as many nodes as it is asked for, at least one.
 
 use crate::random::Random;
-use crate::table::{children_of, parents_first, table_of, Children, NONE};
+use crate::table::{children_of, parents_first, reached_from, table_of, Children, NONE};
 
 /// A named maker of trees of a given size.
 pub struct Shape {
@@ -300,28 +300,131 @@ pub fn largest(family: fn(usize) -> Vec<u16>, most_nodes: usize) -> Vec<u16> {
         .expect("the member of k = 1 fits")
 }
 
-/// A lone root beside a ring of all the others, each the next one's parent: refused 5.
-pub fn ring(nodes: usize) -> Vec<u16> {
-    ring_of_entry(nodes, 0)
-}
-
-/// The same with each the next one's elder sibling.
-pub fn sibling_ring(nodes: usize) -> Vec<u16> {
-    ring_of_entry(nodes, 1)
-}
-
-fn ring_of_entry(nodes: usize, entry: usize) -> Vec<u16> {
-    let mut table = strays(nodes);
-    for node in 1..nodes {
-        let next = if node + 1 < nodes { node + 1 } else { 1 };
-        table[2 * node + entry] = next as u16;
-    }
-    table
+/// A well-formed table of any shape, its numbers in any order.
+pub fn random_table(nodes: usize, random: &mut Random) -> Vec<u16> {
+    let shape = &SHAPES[random.below(SHAPES.len())];
+    let table = (shape.make)(nodes, random);
+    renumbered_at_random(&table, random)
 }
 
 /// No links at all: refused 5 with two nodes or more.
 pub fn strays(nodes: usize) -> Vec<u16> {
     vec![NONE; 2 * nodes]
+}
+
+/// A lone root beside a ring of all the others, each the next one's parent: refused 14 with two
+/// nodes or more.
+pub fn ring(nodes: usize) -> Vec<u16> {
+    rings(nodes, nodes, || 0)
+}
+
+/// The same with each the next one's elder sibling.
+pub fn sibling_ring(nodes: usize) -> Vec<u16> {
+    rings(nodes, nodes, || 1)
+}
+
+/// A lone root beside rings of so many of the others each, the last one perhaps of fewer. `entry`
+/// says by which of a node's two entries its ring goes on.
+fn rings(nodes: usize, length: usize, mut entry: impl FnMut() -> usize) -> Vec<u16> {
+    let mut table = strays(nodes);
+    let others: Vec<usize> = (1..nodes).collect();
+    for ring in others.chunks(length) {
+        for (place, node) in ring.iter().enumerate() {
+            table[2 * node + entry()] = ring[(place + 1) % ring.len()] as u16;
+        }
+    }
+    table
+}
+
+/// Cuts off what some entry leads to, and gives the node that it named.
+fn cut_off(table: &mut [u16], random: &mut Random) -> u16 {
+    let naming: Vec<usize> = (0..table.len())
+        .filter(|&entry| table[entry] != NONE)
+        .collect();
+    std::mem::replace(&mut table[naming[random.below(naming.len())]], NONE)
+}
+
+/// Cuts off what some entry leads to, and has its first node named by one of its own free entries.
+fn join_to_ring(table: &mut [u16], random: &mut Random) {
+    let first = cut_off(table, random);
+    let part = reached_from(table, usize::from(first));
+    let free: Vec<usize> = (0..table.len())
+        .filter(|&entry| part[entry / 2] && table[entry] == NONE)
+        .collect();
+    table[free[random.below(free.len())]] = first;
+}
+
+/// A tree of two nodes or more, parts of which are joined to rings or cut off as strays, and its
+/// number: 5 with a stray, or else 14.
+pub fn disconnected(tree: &[u16], random: &mut Random) -> (u16, Vec<u16>) {
+    let mut table = tree.to_vec();
+    let (with_rings, with_strays) = [(true, false), (true, true), (false, true)][random.below(3)];
+    if with_rings {
+        for _ in 0..random.between(1, 3) {
+            join_to_ring(&mut table, random);
+        }
+    }
+    if with_strays {
+        let links = tree.len() / 2 - 1;
+        for _ in 0..random.between(1, links.min(3)) {
+            cut_off(&mut table, random);
+        }
+    }
+    (if with_strays { 5 } else { 14 }, table)
+}
+
+/// A tree and, numbered after its nodes, those of another table but for node 0, which names none.
+fn beside(tree: &[u16], other: &[u16]) -> Vec<u16> {
+    let step = (tree.len() / 2 - 1) as u16;
+    let renumbered = other[2..].iter().map(|&entry| match entry {
+        NONE => NONE,
+        _ => entry + step,
+    });
+    tree.iter().copied().chain(renumbered).collect()
+}
+
+/// A lone root beside strays, or beside rings of all kinds, of two nodes or more in all, each table
+/// with its number.
+fn beside_a_lone_root(nodes: usize, random: &mut Random) -> Vec<(u16, Vec<u16>)> {
+    let any_length = random.between(1, nodes);
+    let mixed = [1, 2, any_length, nodes].map(|length| rings(nodes, length, || random.below(2)));
+    let alike = [ring(nodes), sibling_ring(nodes)];
+    let mut tables = vec![(5, strays(nodes))];
+    tables.extend(alike.into_iter().chain(mixed).map(|table| (14, table)));
+    tables
+}
+
+/// Tables of so many nodes, at least two, that are refused 5 or 14, each with its number: strays
+/// and rings of all kinds, alone, beside a tree and made of its parts.
+pub fn strays_and_rings(nodes: usize, random: &mut Random) -> Vec<(u16, Vec<u16>)> {
+    let mut tables = beside_a_lone_root(nodes, random);
+    let others = nodes / 2;
+    for (number, table) in beside_a_lone_root(1 + others, random) {
+        let tree = random_table(nodes - others, random);
+        tables.push((number, beside(&tree, &table)));
+    }
+    for _ in 0..4 {
+        let tree = random_table(nodes, random);
+        tables.push(disconnected(&tree, random));
+    }
+    tables
+}
+
+/// Every table of so many nodes of which none of 1 to 4 holds: node 0 has no next sibling and is
+/// named by no entry, and each other node by one at most.
+pub fn every_linking(nodes: usize) -> Vec<Vec<u16>> {
+    let mut tables = vec![strays(nodes)];
+    for node in 1..nodes {
+        for table in std::mem::take(&mut tables) {
+            for entry in (0..table.len()).filter(|&entry| entry != 1 && table[entry] == NONE) {
+                let mut linked = table.clone();
+                linked[entry] = node as u16;
+                tables.push(linked);
+            }
+            tables.push(table);
+        }
+    }
+    tables
 }
 
 /// Every ordered tree of so many nodes, numbered as by Renumber.
@@ -504,10 +607,50 @@ mod tests {
 
     #[test]
     fn rings_and_strays_are_refused() {
-        for nodes in [2, 3, 64, 1_024] {
-            assert_eq!(refusal(&ring(nodes)), 5);
-            assert_eq!(refusal(&sibling_ring(nodes)), 5);
-            assert_eq!(refusal(&strays(nodes)), 5);
+        let mut source = Random::new(2);
+        for nodes in (2..70).chain([1_023, 1_024]) {
+            for (number, table) in strays_and_rings(nodes, &mut source) {
+                assert_eq!(table.len(), 2 * nodes);
+                assert_eq!(refusal(&table), number, "{table:?}");
+            }
         }
+    }
+
+    #[test]
+    fn counts_of_all_small_linkings() {
+        for (nodes, count, trees) in [
+            (1, 1, 1),
+            (2, 4, 1),
+            (3, 31, 4),
+            (4, 358, 30),
+            (5, 5_509, 336),
+        ] {
+            let tables: BTreeSet<_> = every_linking(nodes).into_iter().collect();
+            assert_eq!(tables.len(), count);
+            assert!(tables
+                .iter()
+                .all(|table| [0, 5, 14].contains(&refusal(table))));
+            assert_eq!(
+                tables.iter().filter(|table| refusal(table) == 0).count(),
+                trees
+            );
+        }
+    }
+
+    #[test]
+    fn disconnected_trees_meet_every_small_one() {
+        let mut source = Random::new(6);
+        let met: BTreeSet<_> = (0..20_000)
+            .map(|_| {
+                let tree = random_table(4, &mut source);
+                disconnected(&tree, &mut source)
+            })
+            .collect();
+        let all: BTreeSet<_> = every_linking(4)
+            .into_iter()
+            .map(|table| (refusal(&table), table))
+            .filter(|&(number, _)| number != 0)
+            .collect();
+        assert_eq!(met, all);
     }
 }

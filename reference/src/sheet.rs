@@ -351,6 +351,7 @@ mod tests {
             (3, &[1, 2, NONE, 2, NONE, NONE]),
             (4, &[1, NONE, 1, 2, NONE, NONE]),
             (5, &[1, NONE, NONE, NONE, NONE, NONE]),
+            (14, &[1, NONE, NONE, NONE, NONE, 2]),
         ] {
             assert_eq!(write_refusal(broken, 0, 0, 0), number);
             assert_eq!(write_refusal(broken, 1, 6, 1_024), number);

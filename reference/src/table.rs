@@ -97,7 +97,7 @@ pub fn renumber(table: &[u16], out: &[u16], map: &[u16]) -> Renumbered {
     }
 }
 
-/// The first of the conditions 1 to 5 that holds, or 0.
+/// The first of the conditions 1 to 5 and 14 that holds, or 0.
 pub fn refusal(table: &[u16]) -> u16 {
     if wrong_length(table) {
         1
@@ -107,8 +107,10 @@ pub fn refusal(table: &[u16]) -> u16 {
         3
     } else if named_too_often(table) {
         4
-    } else if leaves_unreached(table) {
+    } else if leaves_unnamed(table) {
         5
+    } else if leaves_unreached(table) {
+        14
     } else {
         0
     }
@@ -125,30 +127,47 @@ fn names_beyond(table: &[u16]) -> bool {
         .any(|&entry| entry != NONE && usize::from(entry) >= nodes)
 }
 
-fn named_too_often(table: &[u16]) -> bool {
+/// How many entries name each node.
+fn times_named(table: &[u16]) -> Vec<usize> {
     let mut times = vec![0; table.len() / 2];
-    for &entry in table {
-        if entry != NONE {
-            times[usize::from(entry)] += 1;
-        }
+    for node in table.iter().filter_map(|&entry| named(entry)) {
+        times[node] += 1;
     }
+    times
+}
+
+fn named_too_often(table: &[u16]) -> bool {
+    let times = times_named(table);
     times[0] > 0 || times.iter().any(|&count| count > 1)
 }
 
+fn leaves_unnamed(table: &[u16]) -> bool {
+    times_named(table)[1..].contains(&0)
+}
+
 fn leaves_unreached(table: &[u16]) -> bool {
+    reached_from(table, 0).contains(&false)
+}
+
+/// For each node whether it is reached from this one by steps to a first child or a next sibling,
+/// no step at all included.
+pub fn reached_from(table: &[u16], start: usize) -> Vec<bool> {
     let mut reached = vec![false; table.len() / 2];
-    let mut open = vec![0];
+    let mut open = vec![start];
     while let Some(node) = open.pop() {
         if !reached[node] {
             reached[node] = true;
-            open.extend(
-                [first_child(table, node), next_sibling(table, node)]
-                    .into_iter()
-                    .flatten(),
-            );
+            open.extend(steps_from(table, node));
         }
     }
-    reached.contains(&false)
+    reached
+}
+
+/// The nodes that a node's two entries name.
+fn steps_from(table: &[u16], node: usize) -> impl Iterator<Item = usize> {
+    [first_child(table, node), next_sibling(table, node)]
+        .into_iter()
+        .flatten()
 }
 
 fn named(entry: u16) -> Option<usize> {
@@ -225,6 +244,7 @@ pub fn over_start<T: Copy>(slice: &[T], written: &[T]) -> Vec<T> {
 #[cfg(test)]
 mod tests {
     use super::*;
+    use crate::shapes::every_linking;
 
     // A root with children 3 and 1; node 3 has the children 2, 5 and 4.
     const FAMILY: [u16; 12] = [3, NONE, NONE, NONE, NONE, 5, 2, 1, NONE, NONE, NONE, 4];
@@ -235,7 +255,7 @@ mod tests {
         assert_eq!(refusal(&[NONE, 1, NONE, NONE]), 3);
         assert_eq!(refusal(&[0, NONE]), 4);
         assert_eq!(refusal(&[NONE; 4]), 5);
-        assert_eq!(refusal(&[NONE, NONE, 2, NONE, 1, NONE]), 5);
+        assert_eq!(refusal(&[NONE, NONE, 2, NONE, 1, NONE]), 14);
         assert_eq!(
             check(&[NONE; 2]),
             Checked {
@@ -259,7 +279,30 @@ mod tests {
         assert_eq!(refusal(&[1, 1, NONE, NONE]), 3);
         assert_eq!(refusal(&[1, NONE, 1, NONE, NONE, NONE]), 4);
         assert_eq!(refusal(&[1, NONE, 0, NONE]), 4);
-        assert_eq!(refusal(&[NONE, NONE, 1, NONE]), 5);
+        assert_eq!(refusal(&[NONE, NONE, 1, NONE, NONE, NONE]), 5);
+        assert_eq!(refusal(&[NONE, NONE, 1, NONE]), 14);
+        assert_eq!(refusal(&[2, NONE, NONE, 1, NONE, NONE]), 14);
+    }
+
+    /// Whether some node that node 0 does not reach is reached from itself by one step or more.
+    fn has_ring(table: &[u16]) -> bool {
+        let reached = reached_from(table, 0);
+        (0..table.len() / 2).any(|node| {
+            !reached[node] && steps_from(table, node).any(|next| reached_from(table, next)[node])
+        })
+    }
+
+    #[test]
+    fn a_table_with_unreached_nodes_has_a_stray_or_a_ring() {
+        for table in (1..=5).flat_map(every_linking) {
+            let number = refusal(&table);
+            assert_eq!(number != 0, leaves_unreached(&table), "{table:?}");
+            match number {
+                0 => assert!(!has_ring(&table), "{table:?}"),
+                14 => assert!(has_ring(&table), "{table:?}"),
+                _ => assert_eq!(number, 5, "{table:?}"),
+            }
+        }
     }
 
     #[test]

@@ -61,7 +61,7 @@ fn built(source: &str, compiler: &str) -> Command {
 
 /// The program lists the samples as they are stored.
 fn lists(mut program: Command) {
-    for sample in ["example", "family", "damaged-tree"] {
+    for sample in ["example", "family", "damaged-stray", "damaged-ring"] {
         let sheet = File::open(root().join(format!("samples/{sample}.sheet"))).expect("a sample");
         let printed = printed_by(program.stdin(Stdio::from(sheet)));
         assert_eq!(printed, text(&format!("samples/{sample}.listing")));

@@ -169,7 +169,7 @@ impl Comparison {
             (&[NONE, 1, NONE, NONE], 5, 3),
             (&[0, NONE], 5, 4),
             (&[NONE; 4], 5, 5),
-            (&[NONE, NONE, 2, NONE, 1, NONE], 5, 5),
+            (&[NONE, NONE, 2, NONE, 1, NONE], 5, 14),
             (&[NONE; 2], 0, 6),
             (&[NONE; 2], 1, 0),
             (&[NONE; 2], 1_024, 0),
@@ -231,6 +231,24 @@ impl Comparison {
             .end_section("the same with one to four entries damaged");
     }
 
+    /// Strays and rings, with D at its bounds and slices of all lengths.
+    fn strays_and_rings(&mut self) {
+        for table in shapes::every_linking(4) {
+            self.every_length(&table);
+        }
+        for nodes in (2..=40).chain([64, 65, 300, 1_023, 1_024]) {
+            for (wanted, table) in shapes::strays_and_rings(nodes, &mut self.run.random) {
+                for separation in [0, 1, 1_024, 1_025] {
+                    let number = self.exact(&table, separation);
+                    self.run
+                        .expect("number", number, wanted, &"strays and rings");
+                }
+                self.every_length(&table);
+            }
+        }
+        self.run.end_section("strays and rings");
+    }
+
     /// Small trees at random: many of them, with slices of any length now and then.
     fn small_trees(&mut self) {
         for _ in 0..110_000 {
@@ -275,6 +293,10 @@ fn the_layout_agrees_with_the_model() {
     comparison.cases_of_the_paper();
     comparison.every_small_tree();
     comparison.shapes();
+    comparison.strays_and_rings();
     comparison.small_trees();
+    comparison
+        .run
+        .expect_numbers(&[0, 1, 2, 3, 4, 5, 6, 7, 8, 14]);
     comparison.run.finish(100_000);
 }

@@ -3,11 +3,12 @@
 //! Every run must end in time and with success, and print what the model gives and nothing else,
 //! on either output. Only where its output is lost is it enough that the program ends.
 
-use reference::files::{random_file, random_table, KINDS};
+use reference::files::{random_file, KINDS};
 use reference::listing::{listing, number_of, NUMBERS};
 use reference::program::{self, Ended};
 use reference::run::Run;
 use reference::samples::{self, samples};
+use reference::shapes::random_table;
 use reference::sheet::{self, BLOCK_BYTES, MOST_BLOCKS};
 use std::collections::BTreeMap;
 use std::fs::{self, File};

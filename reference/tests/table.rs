@@ -134,7 +134,7 @@ impl Comparison {
             (&[NONE, 1, NONE, NONE], 3),
             (&[0, NONE], 4),
             (&[NONE; 4], 5),
-            (&[NONE, NONE, 2, NONE, 1, NONE], 5),
+            (&[NONE, NONE, 2, NONE, 1, NONE], 14),
             (&[NONE; 2], 0),
             (&chain_1024, 0),
             (&chain_1025, 1),
@@ -184,33 +184,35 @@ impl Comparison {
             .end_section("the same with one to four entries damaged");
     }
 
-    /// Rings and strays, alone and beside a tree.
-    fn rings_and_strays(&mut self) {
-        let random_sizes: Vec<usize> = (0..20)
+    /// Every small table that only 5, 14 and 7 can refuse.
+    fn every_linking(&mut self) {
+        for table in (1..=5).flat_map(shapes::every_linking) {
+            self.all(&table);
+        }
+        for table in shapes::every_linking(6) {
+            self.check(&table);
+        }
+        self.run
+            .end_section("every table of up to 6 nodes of which none of 1 to 4 holds");
+    }
+
+    /// Strays and rings of many sizes, as they are and with other numbers.
+    fn strays_and_rings(&mut self) {
+        let random_sizes: Vec<usize> = (0..60)
             .map(|_| self.run.random.between(65, 1_024))
             .collect();
         for nodes in (2..=64).chain(random_sizes).chain([1_023, 1_024]) {
-            for make in [shapes::ring, shapes::sibling_ring, shapes::strays] {
-                let lone = make(nodes);
-                let random = &mut self.run.random;
-                let renumbered = shapes::renumbered_at_random(&lone, random);
-                let mut beside_a_tree = shapes::random(nodes.div_ceil(2), random);
-                let tree_nodes = (beside_a_tree.len() / 2) as u16;
-                // A smaller one, its node 0 left out, is numbered after the tree.
-                beside_a_tree.extend(make(nodes - nodes.div_ceil(2) + 1)[2..].iter().map(
-                    |&entry| match entry {
-                        NONE => NONE,
-                        _ => entry - 1 + tree_nodes,
-                    },
-                ));
-                for table in [lone, renumbered, beside_a_tree] {
+            for (wanted, table) in shapes::strays_and_rings(nodes, &mut self.run.random) {
+                let renumbered = shapes::renumbered_at_random(&table, &mut self.run.random);
+                for table in [table, renumbered] {
                     let number = self.check(&table);
-                    self.run.expect("number", number, 5, &"a ring or strays");
+                    self.run
+                        .expect("number", number, wanted, &"strays and rings");
                     self.all(&table);
                 }
             }
         }
-        self.run.end_section("rings and strays");
+        self.run.end_section("strays and rings");
     }
 
     /// Lengths that are odd, 0 or beyond the greatest, and those next to them.
@@ -283,9 +285,11 @@ fn the_table_operations_agree_with_the_model() {
     comparison
         .run
         .end_section("every table of up to 3 nodes, odd lengths too");
+    comparison.every_linking();
     comparison.shapes();
-    comparison.rings_and_strays();
+    comparison.strays_and_rings();
     comparison.lengths();
     comparison.slice_lengths();
+    comparison.run.expect_numbers(&[0, 1, 2, 3, 4, 5, 7, 14]);
     comparison.run.finish(200_000);
 }

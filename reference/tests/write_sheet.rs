@@ -5,11 +5,11 @@
 //! acceptance every byte past the file must be as it was. Table and tapes are only read.
 
 use reference::ffi;
-use reference::files::{random_sheet, random_size, random_table, sheet_of_words};
+use reference::files::{random_sheet, random_size, sheet_of_words};
 use reference::lent::Lent;
 use reference::random::Random;
 use reference::run::{Run, Shown};
-use reference::shapes;
+use reference::shapes::{self, random_table};
 use reference::sheet::{self, Sheet, Written, BLOCK_BYTES, BLOCK_ROWS, CLOSING_WORD};
 use reference::table::{self, NONE};
 use std::collections::HashSet;
@@ -62,7 +62,7 @@ fn tables_of_each_number(nodes: usize, random: &mut Random) -> Vec<(u16, Vec<u16
     let free: Vec<usize> = (2..2 * nodes)
         .filter(|&entry| tree[entry] == NONE)
         .collect();
-    vec![
+    let mut tables = vec![
         (0, tree.clone()),
         (1, vec![]),
         (1, of_length(2 * nodes - 1)),
@@ -73,10 +73,9 @@ fn tables_of_each_number(nodes: usize, random: &mut Random) -> Vec<(u16, Vec<u16
         (2, with(random.below(2 * nodes), usize::from(NONE) - 1)),
         (3, with(1, random.below(nodes))),
         (4, with(free[random.below(free.len())], random.below(nodes))),
-        (5, shapes::strays(nodes)),
-        (5, shapes::ring(nodes)),
-        (5, shapes::sibling_ring(nodes)),
-    ]
+    ];
+    tables.extend(shapes::strays_and_rings(nodes, random));
+    tables
 }
 
 struct Comparison {
@@ -329,9 +328,11 @@ impl Comparison {
             let random = &mut self.run.random;
             let nodes = random_size(random);
             let mut given = sheet_of_words(nodes, random);
-            if round % 3 > 0 {
-                let count = random.between(1, 4);
-                given.table = shapes::damaged(&random_table(nodes, random), count, random);
+            let tree = random_table(nodes, random);
+            match round % 4 {
+                0 => (),
+                1 if nodes > 1 => (_, given.table) = shapes::disconnected(&tree, random),
+                _ => given.table = shapes::damaged(&tree, random.between(1, 4), random),
             }
             let sheet = self.read(&sheet::write(&given));
             let number = table::refusal(&given.table);
@@ -356,6 +357,8 @@ fn the_sheet_writer_agrees_with_the_model() {
     comparison.round_trips("written, then read", Comparison::written_then_read);
     comparison.round_trips("read, then written", Comparison::read_then_written);
     comparison.refused_trees();
-    comparison.run.expect_numbers(&[0, 1, 2, 3, 4, 5, 6, 7, 13]);
+    comparison
+        .run
+        .expect_numbers(&[0, 1, 2, 3, 4, 5, 6, 7, 13, 14]);
     comparison.run.finish(200_000);
 }

@@ -4,7 +4,7 @@ use mathlib.Core.List.{List, _++_}
 use Prim.Native.Nat.{ℕ}
 use Rattle.tree.specs.Forest.{forest, treeOf}
 use Rattle.tree.specs.Levels.{level, levelCount}
-use Rattle.tree.specs.WellFormed.{badLength, badEntry, rootHasSibling, namedTwice, notReached, tableConditions, tableNumber}
+use Rattle.tree.specs.WellFormed.{badLength, badEntry, rootHasSibling, namedTwice, unnamed, notReached, tableConditions, tableNumber}
 use Rattle.rule.specs.Rule.{drawn}
 use Rattle.rule.specs.Result.{place, placesOf, levelsOf}
 use Rattle.sheet.specs.Below.{total, every, joined}
@@ -31,7 +31,7 @@ unfolding total every joined wordAt bytesOf blockAt wordSum sound closing inPlac
 file-read = (refl, refl, refl, refl)
 
 table-printed : tableText 3 links tapes ≡ lines
-unfolding forest treeOf level levelCount badLength badEntry rootHasSibling namedTwice notReached tableConditions tableNumber drawn place placesOf levelsOf decimalWithin decimal signedDecimal sheetLine nodeLine nodeLines drawnListing tableText
+unfolding forest treeOf level levelCount badLength badEntry rootHasSibling namedTwice unnamed notReached tableConditions tableNumber drawn place placesOf levelsOf decimalWithin decimal signedDecimal sheetLine nodeLine nodeLines drawnListing tableText
 table-printed = refl
 
 pub example-printed : sheetText file ≡ lines

@@ -23,7 +23,7 @@ drawnListing separation table tapes =
     listing (nodes table) (levelCount table) separation (leastOf (placesOf separation table)) (greatestOf (placesOf separation table))
     (levelsOf table) (placesOf separation table) tapes
 
--- what is printed for a table: 1 to 5, or its listing
+-- what is printed for a table: 1 to 5 or 14, or its listing
 unfoldable pub tableText : ℕ → List ℕ → List ℕ → List ℕ
 tableText separation table tapes = unlessRefused (tableNumber table) (drawnListing separation table tapes)
 

@@ -8,7 +8,7 @@ use lib.ListN.{replicate}
 use Rattle.tree.specs.Table.{none, nodes}
 use Rattle.tree.specs.Forest.{forest, treeOf}
 use Rattle.tree.specs.Levels.{level, levelCount, neighbours}
-use Rattle.tree.specs.WellFormed.{badLength, badEntry, rootHasSibling, namedTwice, notReached, tableConditions}
+use Rattle.tree.specs.WellFormed.{badLength, badEntry, rootHasSibling, namedTwice, unnamed, notReached, tableConditions}
 use Rattle.refusal.specs.After.{overwrite, after}
 use Rattle.rule.specs.Rule.{drawn}
 use Rattle.rule.specs.Result.{place, placesOf, levelsOf, Slices, Answer, Layout, badSeparation, shortResults, shortWork, layoutNumber}
@@ -129,7 +129,7 @@ expected =
     ∷ []
 
 pub checked : map outcome sheets ≡ expected
-unfolding outcome sheets expected drawing refused minus lent leaves inner outer sheet forest treeOf level levelCount neighbours badLength badEntry rootHasSibling namedTwice notReached tableConditions drawn place placesOf levelsOf badSeparation shortResults shortWork layoutNumber overwrite after
+unfolding outcome sheets expected drawing refused minus lent leaves inner outer sheet forest treeOf level levelCount neighbours badLength badEntry rootHasSibling namedTwice unnamed notReached tableConditions drawn place placesOf levelsOf badSeparation shortResults shortWork layoutNumber overwrite after
 checked = refl
 
 -- whatever meets the layout's contract gives that outcome

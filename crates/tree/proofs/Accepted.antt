@@ -1,21 +1,21 @@
 -- What it means for a table that conditions do not hold: the tests said of every entry and every node, and the tree of an accepted table.
 -- Assumes nothing.
 use mathlib.Core.Path.{_≡_, refl, sym, ap, _∙_}
-use mathlib.Core.Logic.{inl, inr, ⊎-elim}
+use mathlib.Core.Logic.{_⊎_, inl, inr, ⊎-elim}
 use mathlib.Core.Bool.{Bool, true, false, _||_, _&&_, not, true≢false}
 use mathlib.Core.List.{List, [], _∷_}
 use Prim.Native.Nat.{ℕ, _+_, _*_, _%_, _≤_, _<_}
 use native.Mathlib.Omega.{arith}
 use lib.Dec.{eqb, ltb}
 use lib.ListN.{length}
-use borrow.Author.Tests.{eqb-true, eqb-false, ltb-true, ltb-false, le-ltb, lt-ltb, eq-eqb, ne-eqb, not-false}
+use borrow.Author.Tests.{eqb-true, eqb-false, ltb-true, ltb-false, le-ltb, lt-ltb, eq-eqb, ne-eqb, not-true, not-false}
 use Rattle.tree.specs.Numbers.{is, count, any, member, upTo}
 use Rattle.tree.specs.Table.{none, nodes, nextSibling}
 use Rattle.tree.specs.Forest.{treeOf, size, preorder}
-use Rattle.tree.specs.WellFormed.{badLength, badEntry, rootHasSibling, namedTwice, notReached, Passed}
+use Rattle.tree.specs.WellFormed.{badLength, badEntry, rootHasSibling, namedTwice, unnamed, notReached, Passed}
 use Rattle.tree.proofs.Counting.{is-same, is-cases, All, distinct-lacking, covering-length}
-use Rattle.refusal.proofs.Truth.{true-or-false, or-false-left, or-false-right, or-false}
-use Rattle.tree.proofs.Tests.{any-false, all-any, all-at, upTo-all, all-upTo, member-count, member-none}
+use Rattle.refusal.proofs.Truth.{true-or-false, or-false-left, or-false-right, or-false, and-left, and-right}
+use Rattle.tree.proofs.Tests.{any-false, all-any, all-at, upTo-all, all-upTo, any-upTo, member-count, member-none}
 use Rattle.tree.proofs.Reading.{size-preorder}
 use Rattle.tree.proofs.Linked.{Names, Linked, tree-below, tree-distinct, tree-size}
 
@@ -120,6 +120,44 @@ linked t p =
     }
 
 -- ---- condition 5
+
+module _ (t : List ℕ) where
+  abbrev lacks : ℕ → Bool
+  lacks v = not (eqb v 0) && eqb (count v t) 0
+
+  pub all-named : unnamed t ≡ false → (v : ℕ) → v < nodes t → 1 ≤ is v 0 + count v t
+  unfolding unnamed
+  all-named e v h = go (eqb v 0) (eqb (count v t) 0) refl refl (upTo-all (λ v. lacks v ≡ false) (nodes t) (any-false lacks (upTo (nodes t)) e) v h)
+    where
+      go : (a b : Bool) → eqb v 0 ≡ a → eqb (count v t) 0 ≡ b → (not a && b) ≡ false → 1 ≤ is v 0 + count v t
+      go true b p q k = omega (arith, is-same v 0 (eqb-true v 0 p))
+      go false true p q k = absurd (true≢false k)
+      go false false p q k = some (eqb-false (count v t) 0 q)
+        where
+          some : (count v t ≡ 0 → ⊥) → 1 ≤ is v 0 + count v t
+          some d = omega arith
+
+  pub named-all : ((v : ℕ) → v < nodes t → 1 ≤ is v 0 + count v t) → unnamed t ≡ false
+  unfolding unnamed
+  named-all h = all-any lacks (upTo (nodes t)) (all-upTo (λ v. lacks v ≡ false) (nodes t) (λ v k. go v (h v k) (is-cases v 0)))
+    where
+      go : (v : ℕ) → 1 ≤ is v 0 + count v t → ((v ≡ 0) × (is v 0 ≡ 1)) ⊎ ((v ≡ 0 → ⊥) × (is v 0 ≡ 0)) → lacks v ≡ false
+      go v k (inl s) = ap (λ (b : Bool). not b && eqb (count v t) 0) (eq-eqb v 0 (s .0))
+      go v k (inr s) =
+          ap (λ (b : Bool). not b && eqb (count v t) 0) (ne-eqb v 0 (s .0)) ∙ ne-eqb (count v t) 0 (λ z. omega arith)
+
+  -- where it holds there is such a node
+  pub stray : unnamed t ≡ true → (v : ℕ) × (v < nodes t) × (v ≡ 0 → ⊥) × (count v t ≡ 0)
+  unfolding unnamed
+  stray e =
+      let s = any-upTo lacks (nodes t) e in (
+        s .0,
+        s .1,
+        eqb-false (s .0) 0 (not-true _ (and-left (not (eqb (s .0) 0)) _ (s .2))),
+        eqb-true (count (s .0) t) 0 (and-right (not (eqb (s .0) 0)) _ (s .2)),
+      )
+
+-- ---- condition 14
 
 pub all-reached : (t : List ℕ) → notReached t ≡ false → (v : ℕ) → v < nodes t → 1 ≤ count v (preorder (treeOf t))
 unfolding notReached

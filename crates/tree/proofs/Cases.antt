@@ -1,5 +1,5 @@
--- The paper's sheets P8 to P11, and the three nodes of which two name each other: one list of tables with their numbers, checked by one
--- computation of the definitions. Assumes nothing.
+-- The paper's sheets P8 to P11, the three nodes of which two name each other, a ring beside a stray and a ring beside a whole tree: one list
+-- of tables with their numbers, checked by one computation of the definitions. Assumes nothing.
 use mathlib.Core.Path.{_≡_, refl}
 use mathlib.Core.Bool.{Bool, false, not}
 use mathlib.Core.List.{List, [], _∷_}
@@ -9,7 +9,7 @@ use borrow.Author.Tests.{eqb-true, not-false}
 use Rattle.tree.specs.Numbers.{any}
 use Rattle.tree.specs.Table.{none}
 use Rattle.tree.specs.Forest.{forest, treeOf}
-use Rattle.tree.specs.WellFormed.{badLength, badEntry, rootHasSibling, namedTwice, notReached, tableConditions, tableNumber}
+use Rattle.tree.specs.WellFormed.{badLength, badEntry, rootHasSibling, namedTwice, unnamed, notReached, tableConditions, tableNumber}
 use Rattle.tree.proofs.Counting.{All}
 use Rattle.tree.proofs.Tests.{any-false}
 
@@ -23,14 +23,16 @@ cases =
     ∷ (none ∷ 1 ∷ none ∷ none ∷ [], 3)
     ∷ (0 ∷ none ∷ [], 4)
     ∷ (none ∷ none ∷ none ∷ none ∷ [], 5)
-    ∷ (none ∷ none ∷ 2 ∷ none ∷ 1 ∷ none ∷ [], 5)
+    ∷ (none ∷ none ∷ 2 ∷ none ∷ 1 ∷ none ∷ [], 14)
+    ∷ (none ∷ none ∷ 1 ∷ none ∷ none ∷ none ∷ [], 5)
+    ∷ (1 ∷ none ∷ none ∷ none ∷ none ∷ 3 ∷ 2 ∷ none ∷ [], 14)
     ∷ []
 
 abbrev wrong : Case → Bool
 wrong c = not (eqb (tableNumber (c .0)) (c .1))
 
 computed : any wrong cases ≡ false
-unfolding tableNumber tableConditions badLength badEntry rootHasSibling namedTwice notReached treeOf forest
+unfolding tableNumber tableConditions badLength badEntry rootHasSibling namedTwice unnamed notReached treeOf forest
 computed = refl
 
 -- each table of the list has its number

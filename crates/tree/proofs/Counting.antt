@@ -139,6 +139,20 @@ sumBelow-term (suc n) f a h =
     (λ e. omega (arith, sumBelow-term n f a (below h (e .0))))
     (is-cases n a)
 
+-- terms that are 0 or 1, of which one is 0
+pub sumBelow-lacking : (n : ℕ) (f : ℕ → ℕ) → ((x : ℕ) → x < n → f x ≤ 1) → (a : ℕ) → a < n → f a ≡ 0 → sumBelow n f < n
+sumBelow-lacking n f few a h e =
+    omega (
+      arith,
+      sumBelow-add n (λ x. is x a) f,
+      sumBelow-once n a h,
+      sumBelow-one n,
+      sumBelow-mono n (λ x. is x a + f x) (λ x. 1) both,
+    )
+  where
+    both : (x : ℕ) → x < n → is x a + f x ≤ 1
+    both x k = ⊎-elim (λ s. omega (arith, ap f (s .0))) (λ s. omega (arith, few x k)) (is-cases x a)
+
 -- ---- a list and the counts of its elements
 
 pub length-counts : (n : ℕ) (l : List ℕ) → Below n l → length l ≡ sumBelow n (λ x. count x l)
@@ -165,18 +179,7 @@ covering-length n l h = omega (arith, counts-length n l, sumBelow-mono n (λ x. 
 
 -- a list without repetition that lacks a number below n is shorter than n
 pub distinct-lacking : (n : ℕ) (l : List ℕ) → Below n l → Distinct n l → (a : ℕ) → a < n → count a l ≡ 0 → length l < n
-distinct-lacking n l b d a h e =
-    omega (
-      arith,
-      length-counts n l b,
-      sumBelow-add n (λ x. is x a) (λ x. count x l),
-      sumBelow-once n a h,
-      sumBelow-one n,
-      sumBelow-mono n (λ x. is x a + count x l) (λ x. 1) both,
-    )
-  where
-    both : (x : ℕ) → x < n → is x a + count x l ≤ 1
-    both x k = ⊎-elim (λ s. omega (arith, ap (λ (y : ℕ). count y l) (s .0))) (λ s. omega (arith, d x k)) (is-cases x a)
+distinct-lacking n l b d a h e = omega (arith, length-counts n l b, sumBelow-lacking n (λ x. count x l) d a h e)
 
 -- ---- sums over the elements of a list
 

@@ -13,6 +13,7 @@ pub mod Stands
 pub mod Followed
 pub mod TableOf
 pub mod Number
+pub mod Rings
 pub mod Cases
 pub mod Joined
 pub mod Walked

@@ -11,7 +11,7 @@ use Rattle.refusal.specs.First.{Condition, first}
 use Rattle.refusal.proofs.Laws.{NoneHolds, first-refused, first-passed, first-none, none-first}
 use Rattle.tree.specs.Table.{nodes}
 use Rattle.tree.specs.Forest.{treeOf, size}
-use Rattle.tree.specs.WellFormed.{badLength, badEntry, rootHasSibling, namedTwice, notReached, tableConditions, tableNumber, Passed}
+use Rattle.tree.specs.WellFormed.{badLength, badEntry, rootHasSibling, namedTwice, unnamed, notReached, tableConditions, tableNumber, Passed}
 use Rattle.refusal.proofs.Truth.{true-or-false}
 use Rattle.tree.proofs.Accepted.{linked, good-length, reached-size, size-reached}
 
@@ -64,15 +64,19 @@ module _ (t : List ℕ) where
   unfolding tableNumber tableConditions
   number-4 a b c d = simp (a, b, c, d)
 
-  -- where conditions 1 to 4 do not hold, how many nodes are reached decides
-  pub number-5 : Passed t → size (treeOf t) < nodes t → tableNumber t ≡ 5
+  pub number-5 : Passed t → unnamed t ≡ true → tableNumber t ≡ 5
   unfolding tableNumber tableConditions
-  number-5 p h =
-      let e : notReached t ≡ true = ⊎-elim (λ e. e) (λ e. absurd (omega (arith, reached-size t (linked t p) e))) (true-or-false (notReached t)) in
-      simp (p .size, p .entries, p .root, p .named, e)
+  number-5 p e = simp (p .size, p .entries, p .root, p .named, e)
 
-  pub number-0 : Passed t → size (treeOf t) ≡ nodes t → tableNumber t ≡ 0
+  -- where conditions 1 to 5 do not hold, how many nodes are reached decides
+  pub number-14 : Passed t → unnamed t ≡ false → size (treeOf t) < nodes t → tableNumber t ≡ 14
   unfolding tableNumber tableConditions
-  number-0 p h =
+  number-14 p f h =
+      let e : notReached t ≡ true = ⊎-elim (λ e. e) (λ e. absurd (omega (arith, reached-size t (linked t p) e))) (true-or-false (notReached t)) in
+      simp (p .size, p .entries, p .root, p .named, f, e)
+
+  pub number-0 : Passed t → unnamed t ≡ false → size (treeOf t) ≡ nodes t → tableNumber t ≡ 0
+  unfolding tableNumber tableConditions
+  number-0 p f h =
       let e : notReached t ≡ false = size-reached t (linked t p) h in
-      simp (p .size, p .entries, p .root, p .named, e)
+      simp (p .size, p .entries, p .root, p .named, f, e)

@@ -14,7 +14,7 @@ use Rattle.tree.proofs.Counting.{is-other, count-append, Below, all-lef
 use Rattle.tree.proofs.Tests.{at-all, counted-all}
 use Rattle.tree.proofs.Reading.{Agrees, names, named-by-rows, size-preorder}
 use Rattle.tree.proofs.Linked.{Names, read-back, tree-below, tree-distinct, tree-agrees, tree-entry}
-use Rattle.tree.proofs.Accepted.{linked, length-good, named-entries, alone-root, once-named, all-reached, size-reached}
+use Rattle.tree.proofs.Accepted.{linked, length-good, named-entries, alone-root, once-named, named-all, all-reached, size-reached}
 use Rattle.tree.proofs.Parts.{locate, part-agrees, part-below}
 
 -- f is a tree of one root, node 0, on just the numbers below n
@@ -45,7 +45,7 @@ passed t e =
 
 pub reached : (t : List ℕ) → tableNumber t ≡ 0 → (v : ℕ) → v < nodes t → 1 ≤ count v (preorder (treeOf t))
 unfolding tableNumber tableConditions
-reached t e = all-reached t (first-none (tableConditions t) (omega arith) e .1 .1 .1 .1 .0)
+reached t e = all-reached t (first-none (tableConditions t) (omega arith) e .1 .1 .1 .1 .1 .0)
 
 pub accepted-agrees : (t : List ℕ) → tableNumber t ≡ 0 → Agrees t (treeOf t)
 accepted-agrees t e = tree-agrees t (linked t (passed t e))
@@ -142,7 +142,7 @@ module _ (t : List ℕ) (f : Forest) (even : length t ≡ 2 * nodes t) (N : Numb
           let r = row-at (i / 2) (omega arith) in
           subst (Names (nodes t)) (sym (ap (λ (k : ℕ). getD t k none) e ∙ r .3)) (entry-names (nodes t) (r .1) (r .5))
 
-  once-at : (w : ℕ) → w < nodes t → is w 0 + count w t ≤ 1
+  once-at : (w : ℕ) → w < nodes t → is w 0 + count w t ≡ 1
   once-at w h =
       omega (
         arith,
@@ -161,7 +161,7 @@ module _ (t : List ℕ) (f : Forest) (even : length t ≡ 2 * nodes t) (N : Numb
         size = length-good t (omega arith, omega arith, omega arith);
         entries = named-entries t (at-all (Names (nodes t)) t none entry-at);
         root = alone-root t (next f (N .root) (N .alone) a);
-        named = once-named t (N .some) once-at;
+        named = once-named t (N .some) (λ w h. omega (arith, once-at w h));
       }
     where
       next : (f : Forest) → entry f ≡ 0 → siblings f ≡ nil → Agrees t f → nextSibling t 0 ≡ none
@@ -179,4 +179,4 @@ module _ (t : List ℕ) (f : Forest) (even : length t ≡ 2 * nodes t) (N : Numb
   stands-accepted =
       let p = stands-passed in
       none-first (tableConditions t)
-      (p .size, (p .entries, (p .root, (p .named, (size-reached t (linked t p) (ap size stands-tree ∙ numbers-size (nodes t) f N), tt)))))
+      (p .size, (p .entries, (p .root, (p .named, (named-all t (λ w h. omega (arith, once-at w h)), (size-reached t (linked t p) (ap size stands-tree ∙ numbers-size (nodes t) f N), tt))))))

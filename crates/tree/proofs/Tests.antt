@@ -51,6 +51,23 @@ pub all-upTo : (P : ℕ → Type 0) (n : ℕ) → ((v : ℕ) → v < n → P v) 
 all-upTo P zero h = tt
 all-upTo P (suc n) h = all-append P (upTo n) (n ∷ []) (all-upTo P n (λ v k. h v (omega arith))) (h n (omega arith), tt)
 
+-- some number below n passes a test, or none does
+pub some-or-none : (p : ℕ → Bool) (n : ℕ) → ((v : ℕ) × (v < n) × (p v ≡ true)) ⊎ ((v : ℕ) → v < n → p v ≡ false)
+some-or-none p zero = inr (λ v h. absurd (not-suc-le-zero h))
+some-or-none p (suc n) =
+    ⊎-elim (λ s. inl (s .0, omega arith, s .2))
+    (λ none. ⊎-elim (λ e. inl (n, omega arith, e))
+    (λ e. inr (λ v h. ⊎-elim (λ s. ap p (s .0) ∙ e) (λ s. none v (less v h (s .0))) (is-cases v n)))
+    (true-or-false (p n)))
+    (some-or-none p n)
+  where
+    less : (v : ℕ) → v < suc n → (v ≡ n → ⊥) → v < n
+    less v h d = omega arith
+
+pub any-upTo : (p : ℕ → Bool) (n : ℕ) → any p (upTo n) ≡ true → (v : ℕ) × (v < n) × (p v ≡ true)
+any-upTo p n e =
+    ⊎-elim (λ s. s) (λ none. absurd (true≢false (sym e ∙ all-any p (upTo n) (all-upTo (λ v. p v ≡ false) n none)))) (some-or-none p n)
+
 -- ---- members
 
 pub member-count : (x : ℕ) (l : List ℕ) → member x l ≡ true → 1 ≤ count x l

@@ -8,24 +8,25 @@ use lib.ListN.{length, getD, take, set}
 use Rattle.tree.specs.Table.{none, nodes}
 use Rattle.tree.specs.Forest.{treeOf, size, preorder}
 use Rattle.tree.specs.Levels.{childrenOf}
-use Rattle.tree.specs.WellFormed.{badLength, badEntry, namedTwice, tableNumber}
+use Rattle.tree.specs.WellFormed.{badLength, badEntry, namedTwice, unnamed, tableNumber}
 use Rattle.tree.specs.Operations.{renumbered, oldNumbers}
 
 -- ---- table check
 
 -- a mark for each of n nodes, and none is set
-pub record Unmarked (n : ℕ) (marks : List ℕ) : Type 0 where
+pub record Unmarked (n : ℕ) (marks : List Bool) : Type 0 where
   pub enough : n ≤ length marks
-  pub clear : (v : ℕ) → v < n → getD marks v 0 ≡ 0
+  pub clear : (v : ℕ) → v < n → getD marks v false ≡ false
 
 -- a slice has an entry for each node of a table of good length
 pub record Room (t order : List ℕ) : Type 0 where
   pub enough : badLength t ≡ false → nodes t ≤ length order
 
--- one pass over the entries: whether one is bad, and, where none is, whether a node is named twice
-pub record Scanned (t : List ℕ) (b r : Bool) : Type 0 where
+-- one pass over the entries: whether one is bad; where none is, whether a node is named twice; and where none is, whether one is not named
+pub record Scanned (t : List ℕ) (b r m : Bool) : Type 0 where
   pub bad : b ≡ badEntry t
   pub repeated : b ≡ false → r ≡ namedTwice t
+  pub missing : b ≡ false → r ≡ false → m ≡ unnamed t
 
 -- A stack at the end of a slice: its top is at index low, and an entry that names a node is put below it.
 abbrev pub pushedLow : ℕ → ℕ → ℕ

@@ -26,19 +26,42 @@ rootHasSibling t = not (eqb (nextSibling t 0) none)
 unfoldable pub namedTwice : List ℕ → Bool
 namedTwice t = any (λ v. ltb 1 (count v t)) (upTo (nodes t)) || ltb 0 (count 0 t)
 
--- A node is reached from node 0: it is node 0, or a node that is reached names it as its first child or its next sibling.
-pub data Reached (t : List ℕ) : ℕ → Type 0 where
-  at-root : Reached t 0
-  by-first-child : {v w : ℕ} → Reached t v → firstChild t v ≡ w → w < nodes t → Reached t w
-  by-next-sibling : {v w : ℕ} → Reached t v → nextSibling t v ≡ w → w < nodes t → Reached t w
+-- 5: some node other than 0 is named by no entry
+unfoldable pub unnamed : List ℕ → Bool
+unnamed t = any (λ v. not (eqb v 0) && eqb (count v t) 0) (upTo (nodes t))
 
--- 5: some node is not reached from node 0. The tree read off the table has just the nodes that are reached (`reached-exactly` of
--- proofs/Reached.antt).
+-- One step: node v names node w as its first child or its next sibling.
+pub data Step (t : List ℕ) (v w : ℕ) : Type 0 where
+  to-first-child : firstChild t v ≡ w → w < nodes t → Step t v w
+  to-next-sibling : nextSibling t v ≡ w → w < nodes t → Step t v w
+
+-- Node w is reached from node v: it is node v, or one step leads to it from a node that is reached.
+pub data Reached (t : List ℕ) (v : ℕ) : ℕ → Type 0 where
+  at-start : Reached t v v
+  by-step : {u w : ℕ} → Reached t v u → Step t u w → Reached t v w
+
+-- 14, after 5: some node is not reached from node 0. The tree read off the table has just the nodes that are reached (`reached-exactly` of
+-- proofs/Reached.antt), and then there is a ring (`ring-exactly` of proofs/Rings.antt).
 unfoldable pub notReached : List ℕ → Bool
 notReached t = any (λ v. not (member v (preorder (treeOf t)))) (upTo (nodes t))
 
+-- A ring: a node that is reached from itself by one or more steps, and that node 0 does not reach.
+pub record Ring (t : List ℕ) : Type 0 where
+  pub node : ℕ
+  pub next : ℕ
+  pub leaves : Step t node next
+  pub returns : Reached t next node
+  pub apart : Reached t 0 node → ⊥
+
 unfoldable pub tableConditions : List ℕ → List Condition
-tableConditions t = 1 ⇐ badLength t ∷ 2 ⇐ badEntry t ∷ 3 ⇐ rootHasSibling t ∷ 4 ⇐ namedTwice t ∷ 5 ⇐ notReached t ∷ []
+tableConditions t =
+    1 ⇐ badLength t
+    ∷ 2 ⇐ badEntry t
+    ∷ 3 ⇐ rootHasSibling t
+    ∷ 4 ⇐ namedTwice t
+    ∷ 5 ⇐ unnamed t
+    ∷ 14 ⇐ notReached t
+    ∷ []
 
 -- the number of a table: 0 where it is well-formed
 unfoldable pub tableNumber : List ℕ → ℕ

@@ -1,4 +1,4 @@
-// Conditions 1 to 5 of a tree table, in time proportional to its length.
+// Conditions 1 to 5 and 14 of a tree table, in time proportional to its length.
 ghost use mathlib.Core.Path.{_≡_};
 ghost use mathlib.Core.Bool.{false};
 ghost use Prim.Native.Nat.{_≤_, _<_};
@@ -17,17 +17,20 @@ pub const MOST_NODES: usize = 1024;
 pub struct Found {
     pub bad: bool,
     pub repeated: bool,
+    pub missing: bool,
 }
 
-// Conditions 2 and 4, in one pass over the entries. `named` marks the nodes that an entry named so far, and the root from the start.
-fn scan(table: &[u16], named: &mut [u8]) -> Found
+// Conditions 2, 4 and 5, in one pass over the entries. `named` marks the nodes that an entry named so far, and the root from the start;
+// `names` counts those entries, and 1 for the root. Where none named a marked node, they are as many as the nodes that are named.
+fn scan(table: &[u16], named: &mut [bool]) -> Found
     requires { ⌜ badLength (now table) ≡ false ⌝ }
     requires { ⌜ Unmarked (nodes (now table)) (now named) ⌝ }
-    ensures { λ r. ⌜ Scanned (now (table .entry)) (r .bad) (r .repeated) ⌝ }
+    ensures { λ r. ⌜ Scanned (now (table .entry)) (r .bad) (r .repeated) (r .missing) ⌝ }
 {
     let n = table.len() / 2;
-    named[0] = 1;
-    let mut repeats: usize = 0;
+    named[0] = true;
+    let mut names: usize = 1;
+    let mut repeated = false;
     let mut i = 0;
     while i < table.len() {
         let e = table[i] as usize;
@@ -36,29 +39,32 @@ fn scan(table: &[u16], named: &mut [u8]) -> Found
                 return Found {
                     bad: true,
                     repeated: false,
+                    missing: false,
                 };
             }
-            repeats += named[e] as usize;
-            named[e] = 1;
+            repeated = repeated | named[e];
+            named[e] = true;
+            names += 1;
         }
         i += 1;
     }
     Found {
         bad: false,
-        repeated: repeats != 0,
+        repeated,
+        missing: names < n,
     }
 }
 
-// Conditions 2 and 4, with as many marks as the table needs.
+// Conditions 2, 4 and 5, with as many marks as the table needs.
 fn scan_marked(table: &[u16]) -> Found
     requires { ⌜ badLength (now table) ≡ false ⌝ }
-    ensures { λ r. ⌜ Scanned (now (table .entry)) (r .bad) (r .repeated) ⌝ }
+    ensures { λ r. ⌜ Scanned (now (table .entry)) (r .bad) (r .repeated) (r .missing) ⌝ }
 {
     if table.len() <= SMALL_ENTRIES {
-        let mut named = [0u8; SMALL_NODES];
+        let mut named = [false; SMALL_NODES];
         return scan(table, &mut named);
     }
-    let mut named = [0u8; MOST_NODES];
+    let mut named = [false; MOST_NODES];
     scan(table, &mut named)
 }
 
@@ -126,10 +132,13 @@ pub fn judge(table: &[u16], order: &mut [u16]) -> u16
     if scanned.repeated {
         return 4;
     }
+    if scanned.missing {
+        return 5;
+    }
     let n = entries / 2;
     let reached = preorder(table, &mut order[..n]);
     if reached < n {
-        return 5;
+        return 14;
     }
     0
 }

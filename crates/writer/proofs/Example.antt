@@ -6,7 +6,7 @@ use mathlib.Core.List.{List, [], _∷_, _++_}
 use lib.ListN.{take, replicate}
 use Rattle.refusal.specs.After.{overwrite, after}
 use Rattle.tree.specs.Forest.{forest, treeOf}
-use Rattle.tree.specs.WellFormed.{badLength, badEntry, rootHasSibling, namedTwice, notReached, tableConditions}
+use Rattle.tree.specs.WellFormed.{badLength, badEntry, rootHasSibling, namedTwice, unnamed, notReached, tableConditions}
 use Rattle.rule.specs.Result.{badSeparation}
 use Rattle.sheet.specs.Below.{total, joined}
 use Rattle.sheet.specs.Block.{bytesOf, closing}
@@ -32,13 +32,13 @@ abbrev numbered : ℕ → ℕ → ℕ → ℕ
 numbered separation entries room = writeNumber links separation (take entries tapes) (replicate room 9)
 
 pub example-numbers : (numbered 3 6 1024 ≡ 0) × (numbered 3 6 1023 ≡ 7) × (numbered 3 5 1023 ≡ 13) × (numbered 0 5 1023 ≡ 6)
-unfolding writeNumber tableConditions badLength badEntry rootHasSibling namedTwice notReached treeOf forest badSeparation total joined bytesOf closing countWord row content padded closed blockOf fileOf
+unfolding writeNumber tableConditions badLength badEntry rootHasSibling namedTwice unnamed notReached treeOf forest badSeparation total joined bytesOf closing countWord row content padded closed blockOf fileOf
 example-numbers = (refl, refl, refl, refl)
 
 -- of an output of 1,026 bytes that all hold 9, two are left
 pub example-written : (a : Written) (out′ : List ℕ) → SheetWritten links 3 tapes (replicate 1026 9) a out′
     → (a ≡ record { number = 0; bytes = 1024 }) × (out′ ≡ bytesOf header ++ bytesOf rows ++ 9 ∷ 9 ∷ [])
-unfolding writeNumber tableConditions badLength badEntry rootHasSibling namedTwice notReached treeOf forest badSeparation total joined bytesOf closing countWord row content padded closed blockOf fileOf overwrite after
+unfolding writeNumber tableConditions badLength badEntry rootHasSibling namedTwice unnamed notReached treeOf forest badSeparation total joined bytesOf closing countWord row content padded closed blockOf fileOf overwrite after
 example-written a out′ written =
     let number : a .number ≡ 0 = written .number in
     let bytes : a .bytes ≡ 1024 = written .bytes in

@@ -1,4 +1,4 @@
--- Writing a sheet: the conditions 1 to 5, 6, 13 and 7, what is written, and what the operation promises.
+-- Writing a sheet: the conditions 1 to 5, 14, 6, 13 and 7, what is written, and what the operation promises.
 use Prim.Native.Nat.{ℕ, _*_}
 use mathlib.Core.Path.{_≡_}
 use mathlib.Core.Bool.{Bool}

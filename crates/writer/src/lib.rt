@@ -1,4 +1,4 @@
-// The writer of sheet files. The table, D and the slices are judged by the conditions 1 to 5, 6, 13 and 7; then the file is written block
+// The writer of sheet files. The table, D and the slices are judged by the conditions 1 to 5, 14, 6, 13 and 7; then the file is written block
 // by block.
 ghost use mathlib.Core.Path.{_≡_};
 ghost use Prim.Native.Nat.{_*_, _≤_};

@@ -11,13 +11,13 @@ use borrow.Author.Needs.{needs}
 use borrow.Author.Tests.{eqb-true, eqb-false, ltb-true, ltb-false}
 use Rattle.tree.specs.Table.{none, nodes, nextSibling}
 use Rattle.tree.specs.Forest.{treeOf, preorder}
-use Rattle.tree.specs.WellFormed.{badLength, badEntry, rootHasSibling, Passed, tableNumber}
+use Rattle.tree.specs.WellFormed.{badLength, badEntry, rootHasSibling, unnamed, Passed, tableNumber}
 use Rattle.tree.specs.Steps.{Visited, Judged}
 use Rattle.refusal.proofs.Truth.{true-or-false}
 use Rattle.tree.proofs.Scan.{getD-any}
 use Rattle.tree.proofs.Linked.{tree-size}
 use Rattle.tree.proofs.Accepted.{good-length, length-good, alone-root, root-alone, linked}
-use Rattle.tree.proofs.Number.{length-bad, number-1, number-2, number-3, number-4, number-5, number-0}
+use Rattle.tree.proofs.Number.{length-bad, number-1, number-2, number-3, number-4, number-5, number-14, number-0}
 use Rattle.tree.proofs.judge.judge.Statement.{statement}
 use Rattle.tree.proofs.judge.judge.Tie as tie
 
@@ -55,7 +55,7 @@ module _ (c : tie.Else5) where
   root-ok : rootHasSibling (table (sized filled)) ≡ false
   root-ok = alone-root (table (sized filled)) (sym (second-read (sized filled)) ∙ c .if5 .left)
 
--- past the test of the names
+-- past the test of the names that are repeated
 module _ (c : tie.Else6) where
   abbrev rooted : tie.Else5
   rooted = c .before
@@ -71,6 +71,9 @@ module _ (c : tie.Else6) where
         root = root-ok rooted;
         named = sym (filled rooted .before .scan-marked .ensures .repeated (filled rooted .if4 .left)) ∙ c .if6 .left;
       }
+
+  missing : filled rooted .before .scan-marked .result .missing ≡ unnamed (table first)
+  missing = filled rooted .before .scan-marked .ensures .missing (filled rooted .if4 .left) (c .if6 .left)
 
   -- the part of the order that is lent has as many entries as there are nodes
   room : nodes (table first) ≤ length (start first .args .order .now)
@@ -116,23 +119,27 @@ returns-4 c =
     refused (table p) 3 _ (number-4 (table p) (length-ok p) (entries-ok q) (root-ok r)
     (sym (q .before .scan-marked .ensures .repeated (q .if4 .left)) ∙ c .if6 .taken))
 
+returns-5 : tie.Need-returns-5
+returns-5 c = refused (table (first (c .before))) 4 _ (number-5 (table (first (c .before))) (passed (c .before)) (sym (missing (c .before)) ∙ c .if7 .taken))
+
 slice-relend-prefix-preorder : tie.Need-slice-relend-prefix-preorder
-slice-relend-prefix-preorder c = room c
+slice-relend-prefix-preorder c = room (c .before)
 
 slice-aggregate-preorder : tie.Need-slice-aggregate-preorder
-slice-aggregate-preorder c = sym (length-take-le _ _ (room (c .before)))
+slice-aggregate-preorder c = sym (length-take-le _ _ (room (c .before .before)))
 
 preorder-requires : tie.Need-preorder-requires
-preorder-requires c κs = (passed (c .before), length-take-le _ _ (room (c .before)))
+preorder-requires c κs = (passed (c .before .before), length-take-le _ _ (room (c .before .before)))
 
 same-length : tie.Need-same-length
 same-length c = search needs
 
-returns-5 : tie.Need-returns-5
-returns-5 c =
+returns-6 : tie.Need-returns-6
+returns-6 c =
     let visited = c .before .before .before in
-    let p = visited .before .before in
-    refused (table (first p)) 4 _ (number-5 (table (first p)) (passed p) (omega arith))
+    let q = visited .before .before in
+    let t = table (first (q .before)) in
+    refused t 13 _ (number-14 t (passed (q .before)) (sym (missing (q .before)) ∙ q .if7 .left) (omega arith))
 
 same-length-2 : tie.Need-same-length-2
 same-length-2 c = search needs
@@ -141,15 +148,16 @@ same-length-2 c = search needs
 in-front : (t seen rest : List ℕ) (n r : ℕ) → Visited t r seen → r ≡ n → length seen ≡ n → take n (seen ++ rest) ≡ preorder (treeOf t)
 in-front t seen rest n r v e l = take-at seen rest n l ∙ sym (take-all n seen (omega arith)) ∙ ap (λ (k : ℕ). take k seen) (sym e) ∙ v .order
 
-returns-6 : tie.Need-returns-6
-returns-6 c =
+returns-7 : tie.Need-returns-7
+returns-7 c =
     let visited = c .before .before .before in
-    let p = visited .before .before in
+    let q = visited .before .before in
+    let p = q .before in
     let t = table (first p) in
     let v = visited .preorder .ensures in
     let all : visited .preorder .result ≡ nodes t = omega (arith, tree-size t (linked t (passed p))) in
     record {
-      number = sym (number-0 t (passed p) (sym (v .reached) ∙ all));
+      number = sym (number-0 t (passed p) (sym (missing p) ∙ q .if7 .left) (sym (v .reached) ∙ all));
       order = λ e. in-front t (visited .preorder .last .1 .0) _ (nodes t) (visited .preorder .result) v all
           (visited .preorder .kept .1 .0 ∙ length-take-le _ _ (room p));
     }
@@ -164,10 +172,11 @@ judge-spec =
     shared-slice-read-if5
     returns-3
     returns-4
+    returns-5
     slice-relend-prefix-preorder
     slice-aggregate-preorder
     preorder-requires
     same-length
-    returns-5
+    returns-6
     same-length-2
-    returns-6)
+    returns-7)

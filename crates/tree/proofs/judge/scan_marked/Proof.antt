@@ -1,4 +1,5 @@
 -- `tree::judge::scan_marked` meets its contract: the array that is lent has a mark for each node. Assumes nothing.
+use mathlib.Core.Bool.{Bool, false}
 use Prim.Native.Nat.{ℕ, _≤_}
 use native.Mathlib.Omega.{arith}
 use lib.ListN.{replicate, length-replicate, getD-replicate}
@@ -9,9 +10,9 @@ use Rattle.tree.proofs.Accepted.{good-length}
 use Rattle.tree.proofs.judge.scan_marked.Statement.{statement}
 use Rattle.tree.proofs.judge.scan_marked.Tie as tie
 
-zeros : (n k : ℕ) → n ≤ k → Unmarked n (replicate k 0)
-zeros n k h =
-    record { enough = omega (arith, length-replicate {A = ℕ} k 0); clear = λ v l. getD-replicate {A = ℕ} k v 0 0 (omega arith) }
+clear : (n k : ℕ) → n ≤ k → Unmarked n (replicate k false)
+clear n k h =
+    record { enough = omega (arith, length-replicate {A = Bool} k false); clear = λ v l. getD-replicate {A = Bool} k v false false (omega arith) }
 
 slice-aggregate-scan : tie.Need-slice-aggregate-scan
 slice-aggregate-scan c = search needs
@@ -19,7 +20,7 @@ slice-aggregate-scan c = search needs
 scan-requires : tie.Need-scan-requires
 scan-requires c κs =
     let s = c .before .before .before in
-    (s .pre, zeros (nodes (s .args .table .now)) 64 (omega arith))
+    (s .pre, clear (nodes (s .args .table .now)) 64 (omega arith))
 
 returns : tie.Need-returns
 returns c = search needs
@@ -30,7 +31,7 @@ slice-aggregate-scan-2 c = search needs
 scan-requires-2 : tie.Need-scan-requires-2
 scan-requires-2 c κs =
     let s = c .before .before .before in
-    (s .pre, zeros (nodes (s .args .table .now)) 1024 (omega (arith, good-length (s .args .table .now) (s .pre) .2)))
+    (s .pre, clear (nodes (s .args .table .now)) 1024 (omega (arith, good-length (s .args .table .now) (s .pre) .2)))
 
 returns-2 : tie.Need-returns-2
 returns-2 c = search needs
