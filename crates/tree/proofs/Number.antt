@@ -8,7 +8,7 @@ use Prim.Native.Nat.{ℕ, zero, suc, _%_, _<_, _≤_}
 use native.Mathlib.Omega.{arith}
 use lib.ListN.{length}
 use Rattle.refusal.specs.First.{Condition, first}
-use Rattle.refusal.proofs.Laws.{NoneHolds, first-refused, first-passed, first-none, none-first}
+use Rattle.refusal.proofs.Laws.{Lacks, NoneHolds, first-refused, first-passed, first-lacks, first-none, none-first}
 use Rattle.tree.specs.Table.{nodes}
 use Rattle.tree.specs.Forest.{treeOf, size}
 use Rattle.tree.specs.WellFormed.{badLength, badEntry, rootHasSibling, namedTwice, unnamed, notReached, tableConditions, tableNumber, Passed}
@@ -36,6 +36,14 @@ module _ (t : List ℕ) (own : List Condition) where
       go : (k : ℕ) → k ≡ tableNumber t → tableNumber t ≡ 0
       go zero h = sym h
       go (suc k) h = sym h ∙ sym (table-refused (suc k) h (λ z. omega arith)) ∙ e
+
+  -- a number that is none of the operation's own is the table's
+  pub table-said : (k : ℕ) → Lacks k own → (k ≡ 0 → ⊥) → first (tableConditions t ++ own) ≡ k → tableNumber t ≡ k
+  table-said k l some e = go (tableNumber t) refl
+    where
+      go : (j : ℕ) → j ≡ tableNumber t → tableNumber t ≡ k
+      go zero h = absurd (first-lacks own k l some (sym (table-passed (sym h)) ∙ e))
+      go (suc j) h = sym h ∙ sym (table-refused (suc j) h (λ z. omega arith)) ∙ e
 
 -- ---- one by one
 

@@ -4,13 +4,14 @@
 use mathlib.Core.Path.{_≡_, refl, sym, ap, _∙_, subst}
 use mathlib.Core.Logic.{_↔_, _⊎_, inl, inr, ⊎-elim}
 use mathlib.Core.Bool.{Bool, true, false, cond, not, true≢false}
-use mathlib.Core.List.{List, [], _∷_}
+use mathlib.Core.List.{List, [], _∷_, _++_}
 use Prim.Native.Nat.{ℕ, zero, suc, _+_, _≤_, _<_}
 use native.Mathlib.Omega.{arith}
 use lib.Dec.{eqb, ltb}
 use lib.ListN.{length}
 use borrow.Author.Tests.{ltb-true, ltb-false, ne-eqb, not-true}
 use Rattle.refusal.specs.First.{Condition, _⇐_, first}
+use Rattle.refusal.proofs.Laws.{Lacks}
 use Rattle.refusal.proofs.Truth.{true-or-false}
 use Rattle.tree.specs.Numbers.{is, count, member}
 use Rattle.tree.specs.Table.{nodes, firstChild, nextSibling}
@@ -22,7 +23,7 @@ use Rattle.tree.proofs.Reading.{names, named-by-rows}
 use Rattle.tree.proofs.Linked.{Linked}
 use Rattle.tree.proofs.Accepted.{linked, all-named, named-all, stray, all-reached}
 use Rattle.tree.proofs.Reached.{reached-exactly}
-use Rattle.tree.proofs.Number.{number-1, number-2, number-3, number-4}
+use Rattle.tree.proofs.Number.{table-said, number-1, number-2, number-3, number-4}
 
 -- one step, and then further ones
 step-first : (t : List ℕ) {u v w : ℕ} → Step t u v → Reached t v w → Reached t u w
@@ -194,6 +195,14 @@ module _ (t : List ℕ) where
       go e p true r a b = absurd (omega (arith, later p true r a b .0))
       go e p false true a b = (p, a, ring-there t p a b)
       go e p false false a b = absurd (omega (arith, later p false false a b .0))
+
+  -- the same of an operation that tries the table's conditions and then its own, which have other numbers
+  pub stray-told : (own : List Condition) → Lacks 5 own → first (tableConditions t ++ own) ≡ 5
+      → (v : ℕ) × (v < nodes t) × (v ≡ 0 → ⊥) × (count v t ≡ 0)
+  stray-told own l e = stray-there (table-said t own 5 l (λ z. omega arith) e)
+
+  pub ring-told : (own : List Condition) → Lacks 14 own → first (tableConditions t ++ own) ≡ 14 → Ring t
+  ring-told own l e = ring-exactly .0 (table-said t own 14 l (λ z. omega arith) e) .2
 
   -- with one number for both, every table would have the number that it has, but 5 for 14
   pub number-of-five : first (fiveConditions t) ≡ cond (eqb (tableNumber t) 14) 5 (tableNumber t)

@@ -22,7 +22,7 @@ pub record Unmarked (n : ℕ) (marks : List Bool) : Type 0 where
 pub record Room (t order : List ℕ) : Type 0 where
   pub enough : badLength t ≡ false → nodes t ≤ length order
 
--- one pass over the entries: whether one is bad; where none is, whether a node is named twice; and where none is, whether one is not named
+-- one pass over the entries: whether one is bad; if none is, whether a node is named twice; and if none is either, whether one is not named
 pub record Scanned (t : List ℕ) (b r m : Bool) : Type 0 where
   pub bad : b ≡ badEntry t
   pub repeated : b ≡ false → r ≡ namedTwice t
