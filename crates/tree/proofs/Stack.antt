@@ -1,5 +1,5 @@
 -- A stack at the end of a list, which grows towards the front. Assumes nothing.
-use mathlib.Core.Path.{_≡_, refl, _∙_}
+use mathlib.Core.Path.{_≡_, refl, ap, _∙_}
 use mathlib.Core.Logic.{⊎-elim}
 use mathlib.Core.Bool.{Bool, true, false, cond}
 use mathlib.Core.List.{List, _∷_}
@@ -20,9 +20,15 @@ drop-stored l i e h = drop-cons (set l i e) i 0 (omega (arith, length-set l i e)
 abbrev pub stacked : ℕ → List ℕ → List ℕ
 stacked e l = cond (eqb e none) l (e ∷ l)
 
+pub node-stacked : (e : ℕ) (l : List ℕ) → (e ≡ none → ⊥) → stacked e l ≡ e ∷ l
+node-stacked e l d = ap (λ (b : Bool). cond b l (e ∷ l)) (ne-eqb e none d)
+
 -- how many entries that is
 abbrev pub one : ℕ → ℕ
 one e = cond (eqb e none) 0 1
+
+pub node-one : (e : ℕ) → (e ≡ none → ⊥) → one e ≡ 1
+node-one e d = ap (λ (b : Bool). cond b 0 1) (ne-eqb e none d)
 
 pub pushedLow-one : (low e : ℕ) → pushedLow low e ≡ low - one e
 pushedLow-one low e = go (eqb e none)

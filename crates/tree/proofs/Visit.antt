@@ -1,22 +1,19 @@
 -- One turn of the visit in preorder, in lists: the nodes visited at the front of a list, and those still to be visited at hand and on a
--- stack at its end.
--- Assumes nothing.
+-- stack at its end. Assumes nothing.
 use mathlib.Core.Path.{_≡_, refl, sym, ap, ap₂, _∙_, subst, subst₂}
-use mathlib.Core.Bool.{Bool, cond}
 use mathlib.Core.List.{List, [], _∷_, _++_, append-assoc, append-nil}
 use Prim.Native.Nat.{ℕ, suc, _+_, _-_, _*_, _≤_, _<_}
 use native.Mathlib.Numerals.{add-one}
 use native.Mathlib.Omega.{arith}
 use lib.ListN.{length, getD, take, drop, set, length-append, length-drop, length-set}
 use lib.Seq.{take-suc-set, drop-cons, drop-set-lt, length-take-le, drop-length}
-use borrow.Author.Tests.{ne-eqb}
 use Rattle.tree.specs.Table.{none, nodes, firstChild, nextSibling}
 use Rattle.tree.specs.Forest.{Forest, forest, treeOf, size, preorder}
 use Rattle.tree.specs.Steps.{pushed, pushedLow, Pushed}
 use Rattle.tree.proofs.Counting.{All}
 use Rattle.tree.proofs.Reading.{size-preorder}
 use Rattle.tree.proofs.Scan.{getD-any}
-use Rattle.tree.proofs.Stack.{drop-stored, stacked, one, pushedLow-one, pushed-length, pushed-take, pushed-drop}
+use Rattle.tree.proofs.Stack.{drop-stored, stacked, node-stacked, one, node-one, pushedLow-one, pushed-length, pushed-take, pushed-drop}
 use Rattle.tree.proofs.Pending.{Pending, Opened, ahead, open-pending, stacked-pending, stacked-ahead, one-size, pending-ahead}
 use Rattle.tree.proofs.Linked.{Linked, tree-agrees, tree-entry, tree-size}
 
@@ -27,12 +24,6 @@ pub record Visiting (t order : List ℕ) (v low count : ℕ) : Type 0 where
   pub apart : count + one v ≤ low
   pub pending : All (Pending t) (stacked v (drop low order))
   pub whole : take count order ++ ahead t (stacked v (drop low order)) ≡ preorder (treeOf t)
-
-pub node-stacked : (v : ℕ) (l : List ℕ) → (v ≡ none → ⊥) → stacked v l ≡ v ∷ l
-node-stacked v l d = ap (λ (b : Bool). cond b l (v ∷ l)) (ne-eqb v none d)
-
-pub node-one : (v : ℕ) → (v ≡ none → ⊥) → one v ≡ 1
-node-one v d = ap (λ (b : Bool). cond b 0 1) (ne-eqb v none d)
 
 module _ (t : List ℕ) (L : Linked t) where
   pub visit-start : (order : List ℕ) → length order ≡ nodes t → Visiting t (set order (nodes t - 1) 0) none (nodes t - 1) 0

@@ -8,8 +8,8 @@ use borrow.Author.Needs.{needs}
 use Rattle.tree.specs.Table.{none, nodes}
 use Rattle.tree.proofs.Linked.{Linked}
 use Rattle.tree.proofs.Accepted.{linked}
-use Rattle.tree.proofs.Stack.{one}
-use Rattle.tree.proofs.Visit.{Visiting, node-one, visit-start, visit-end, visit-top, top-node, visit-count, few-rows, sibling-inside, child-inside, push-room, visit-sibling, visit-child}
+use Rattle.tree.proofs.Stack.{one, node-one}
+use Rattle.tree.proofs.Visit.{Visiting, visit-start, visit-end, visit-top, top-node, visit-count, few-rows, sibling-inside, child-inside, push-room, visit-sibling, visit-child}
 use Rattle.tree.proofs.judge.preorder.Statement.{statement}
 use Rattle.tree.proofs.judge.preorder.Tie as tie
 
