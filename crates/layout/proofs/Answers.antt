@@ -17,7 +17,7 @@ use Rattle.tree.specs.Numbers.{upTo}
 use Rattle.tree.specs.Table.{nodes}
 use Rattle.tree.specs.Levels.{level, neighbours, levelCount}
 use Rattle.tree.specs.WellFormed.{tableNumber}
-use Rattle.tree.proofs.Number.{table-refused, table-passed, table-first}
+use Rattle.tree.proofs.Number.{table-refused, table-passed, table-said}
 use Rattle.refusal.proofs.Truth.{or-false-left, or-false-right, or-false, or-true}
 use Rattle.rule.specs.Record.{flat}
 use Rattle.rule.specs.Result.{Slices, badSeparation, shortResults, shortWork, layoutNumber, placesOf, levelsOf, place, Layout}
@@ -92,7 +92,7 @@ module _ (t : List ℕ) (D : ℕ) (s : Slices) where
   pub taken : layoutNumber t D s ≡ 0 → Taken
   unfolding layoutNumber shortResults shortWork
   taken e =
-      let accepted = table-first t own e in
+      let accepted = table-said t own 0 (omega arith) e in
       let h = first-none own (omega arith) (sym (number-later accepted) ∙ e) in
       let six = h .0 in
       let seven = h .1 .0 in

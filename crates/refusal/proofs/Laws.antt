@@ -1,7 +1,7 @@
 -- Laws of the first condition that holds. Assumes nothing.
 use mathlib.Core.Path.{_≡_, refl, sym, ap, _∙_}
 use mathlib.Core.Bool.{Bool, true, false, cond}
-use mathlib.Core.List.{List, [], _∷_, _++_}
+use mathlib.Core.List.{List, [], _∷_, _++_, append-nil}
 use Prim.Native.Nat.{ℕ}
 use Rattle.refusal.specs.First.{Condition, first}
 
@@ -30,14 +30,27 @@ pub first-passed : (cs ds : List Condition) → NoneHolds cs → first (cs ++ ds
 first-passed [] ds h = refl
 first-passed (c ∷ cs) ds h = ap (λ (b : Bool). cond b (c .number) (first (cs ++ ds))) (h .0) ∙ first-passed cs ds (h .1)
 
--- a number that no condition has is not given, but for 0
-pub first-lacks : (cs : List Condition) (k : ℕ) → Lacks k cs → (k ≡ 0 → ⊥) → first cs ≡ k → ⊥
-first-lacks [] k l some e = some (sym e)
-first-lacks (c ∷ cs) k l some e = go (c .holds) e (first-lacks cs k (l .1) some)
+-- where the number is none of the first list's, no condition of that list holds, and the second list decides
+pub first-past : (cs ds : List Condition) (k : ℕ) → Lacks k cs → first (cs ++ ds) ≡ k → NoneHolds cs × (first ds ≡ k)
+first-past [] ds k l e = (tt, e)
+first-past (c ∷ cs) ds k l e = go (c .holds) refl e (first-past cs ds k (l .1))
   where
-    go : (b : Bool) → cond b (c .number) (first cs) ≡ k → (first cs ≡ k → ⊥) → ⊥
-    go true h ih = l .0 h
-    go false h ih = ih h
+    go : (b : Bool) → c .holds ≡ b → cond b (c .number) (first (cs ++ ds)) ≡ k → (first (cs ++ ds) ≡ k → NoneHolds cs × (first ds ≡ k))
+        → ((c .holds ≡ false) × NoneHolds cs) × (first ds ≡ k)
+    go true h e ih = absurd (l .0 e)
+    go false h e ih = ((h, ih e .0), ih e .1)
+
+-- a number that the list lacks is given only where it is 0, and then no condition holds
+pub first-lacks : (cs : List Condition) (k : ℕ) → Lacks k cs → first cs ≡ k → NoneHolds cs × (0 ≡ k)
+first-lacks cs k l e = first-past cs [] k l (ap first (append-nil cs) ∙ e)
+
+-- a number that only the first condition has, and that is not 0, says that it holds
+pub first-holds : (c : Condition) (cs : List Condition) → (c .number ≡ 0 → ⊥) → Lacks (c .number) cs → first (c ∷ cs) ≡ c .number → c .holds ≡ true
+first-holds c cs some l e = go (c .holds) refl e
+  where
+    go : (b : Bool) → c .holds ≡ b → cond b (c .number) (first cs) ≡ c .number → c .holds ≡ true
+    go true h e = h
+    go false h e = absurd (some (sym (first-lacks cs (c .number) l e .1)))
 
 -- the number is 0 exactly where no condition holds
 pub none-first : (cs : List Condition) → NoneHolds cs → first cs ≡ 0
@@ -45,9 +58,4 @@ none-first [] h = refl
 none-first (c ∷ cs) h = ap (λ (b : Bool). cond b (c .number) (first cs)) (h .0) ∙ none-first cs (h .1)
 
 pub first-none : (cs : List Condition) → Lacks 0 cs → first cs ≡ 0 → NoneHolds cs
-first-none [] n e = tt
-first-none (c ∷ cs) n e = go (c .holds) refl e (first-none cs (n .1))
-  where
-    go : (b : Bool) → c .holds ≡ b → cond b (c .number) (first cs) ≡ 0 → (first cs ≡ 0 → NoneHolds cs) → (c .holds ≡ false) × NoneHolds cs
-    go true h k ih = absurd (n .0 k)
-    go false h k ih = (h, ih k)
+first-none cs l e = first-lacks cs 0 l e .0

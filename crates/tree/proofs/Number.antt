@@ -30,19 +30,12 @@ module _ (t : List ℕ) (own : List Condition) where
   pub table-passed : tableNumber t ≡ 0 → first (tableConditions t ++ own) ≡ first own
   table-passed e = first-passed (tableConditions t) own (accepted t .0 e)
 
-  pub table-first : first (tableConditions t ++ own) ≡ 0 → tableNumber t ≡ 0
-  table-first e = go (tableNumber t) refl
-    where
-      go : (k : ℕ) → k ≡ tableNumber t → tableNumber t ≡ 0
-      go zero h = sym h
-      go (suc k) h = sym h ∙ sym (table-refused (suc k) h (λ z. omega arith)) ∙ e
-
   -- a number that is none of the operation's own is the table's
-  pub table-said : (k : ℕ) → Lacks k own → (k ≡ 0 → ⊥) → first (tableConditions t ++ own) ≡ k → tableNumber t ≡ k
-  table-said k l some e = go (tableNumber t) refl
+  pub table-said : (k : ℕ) → Lacks k own → first (tableConditions t ++ own) ≡ k → tableNumber t ≡ k
+  table-said k l e = go (tableNumber t) refl
     where
       go : (j : ℕ) → j ≡ tableNumber t → tableNumber t ≡ k
-      go zero h = absurd (first-lacks own k l some (sym (table-passed (sym h)) ∙ e))
+      go zero h = sym h ∙ first-lacks own k l (sym (table-passed (sym h)) ∙ e) .1
       go (suc j) h = sym h ∙ sym (table-refused (suc j) h (λ z. omega arith)) ∙ e
 
 -- ---- one by one

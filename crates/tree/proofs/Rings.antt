@@ -11,19 +11,20 @@ use lib.Dec.{eqb, ltb}
 use lib.ListN.{length}
 use borrow.Author.Tests.{ltb-true, ltb-false, ne-eqb, not-true}
 use Rattle.refusal.specs.First.{Condition, _⇐_, first}
-use Rattle.refusal.proofs.Laws.{Lacks}
+use Rattle.refusal.proofs.Laws.{Lacks, NoneHolds, first-refused, first-passed, first-past, first-lacks, first-holds, first-none}
 use Rattle.refusal.proofs.Truth.{true-or-false}
 use Rattle.tree.specs.Numbers.{is, count, member}
-use Rattle.tree.specs.Table.{nodes, firstChild, nextSibling}
+use Rattle.tree.specs.Table.{nodes}
 use Rattle.tree.specs.Forest.{treeOf, preorder}
 use Rattle.tree.specs.WellFormed.{badLength, badEntry, rootHasSibling, namedTwice, unnamed, Step, to-first-child, to-next-sibling, Reached, at-start, by-step, notReached, Ring, tableConditions, tableNumber, Passed}
-use Rattle.tree.proofs.Counting.{is-same, is-other, is-cases, All, all-weaken, Below, Distinct, distinct-length, sumBelow-zero, sumBelow-cong, sumBelow-term}
+use Rattle.tree.proofs.Counting.{is-other, is-cases, All, all-weaken, Below, Distinct, distinct-length, sumBelow-zero, sumBelow-cong}
 use Rattle.tree.proofs.Tests.{any-upTo, some-or-none, one-of, count-member, counted-all}
 use Rattle.tree.proofs.Reading.{names, named-by-rows}
-use Rattle.tree.proofs.Linked.{Linked}
-use Rattle.tree.proofs.Accepted.{linked, all-named, named-all, stray, all-reached}
+use Rattle.tree.proofs.Linked.{Linked, tree-agrees}
+use Rattle.tree.proofs.Accepted.{linked, all-named, stray, all-reached}
 use Rattle.tree.proofs.Reached.{reached-exactly}
-use Rattle.tree.proofs.Number.{table-said, number-1, number-2, number-3, number-4}
+use Rattle.tree.proofs.Number.{table-said}
+use Rattle.tree.proofs.Stands.{reached-numbers, stands-accepted}
 
 -- one step, and then further ones
 step-first : (t : List ℕ) {u v w : ℕ} → Step t u v → Reached t v w → Reached t u w
@@ -129,20 +130,6 @@ module _ (t : List ℕ) (p : Passed t) where
   ring-away R =
       ⊎-elim (λ e. e) (λ e. absurd (R .apart (all-from-root e (R .node) (inside (step-inside (R .leaves)) (R .returns))))) (true-or-false (notReached t))
 
-  -- a node that is reached is named, or it is the root
-  reached-named : notReached t ≡ false → unnamed t ≡ false
-  reached-named e = named-all t (λ v h. named (all-from-root e v h))
-    where
-      by : {u v : ℕ} → Step t u v → 1 ≤ names t v u
-      by {u} {v} (to-first-child e k) = omega (arith, is-same v (firstChild t u) (sym e))
-      by {u} {v} (to-next-sibling e k) = omega (arith, is-same v (nextSibling t u) (sym e))
-
-      named : {v : ℕ} → Reached t 0 v → 1 ≤ is v 0 + count v t
-      named at-start = omega (arith, is-same 0 0 refl)
-      named {v} (by-step {u = u} r s) =
-          let h = inside (linked t p .some) r in
-          omega (arith, by s, named-by-rows t (linked t p .even) v, sumBelow-term (nodes t) (names t v) u h)
-
 -- ---- of the number
 
 -- the conditions with one number for strays and rings
@@ -150,75 +137,73 @@ abbrev pub fiveConditions : List ℕ → List Condition
 fiveConditions t = 1 ⇐ badLength t ∷ 2 ⇐ badEntry t ∷ 3 ⇐ rootHasSibling t ∷ 4 ⇐ namedTwice t ∷ 5 ⇐ notReached t ∷ []
 
 module _ (t : List ℕ) where
-  -- one of 1 to 4 decides, however strays and rings are told apart
-  abbrev Early : Type 0
-  Early = (first (fiveConditions t) ≡ tableNumber t) × (tableNumber t ≤ 4)
+  -- conditions 1 to 4, and those by which strays and rings are told apart
+  abbrev four : List Condition
+  four = 1 ⇐ badLength t ∷ 2 ⇐ badEntry t ∷ 3 ⇐ rootHasSibling t ∷ 4 ⇐ namedTwice t ∷ []
 
-  abbrev Either : Bool → Type 0
-  Either b = (b ≡ true) ⊎ (b ≡ false)
+  abbrev two : List Condition
+  two = 5 ⇐ unnamed t ∷ 14 ⇐ notReached t ∷ []
 
-  early : Passed t ⊎ Early
-  early = go (true-or-false (badLength t)) (true-or-false (badEntry t)) (true-or-false (rootHasSibling t)) (true-or-false (namedTwice t))
-    where
-      at : {k : ℕ} → k ≤ 4 → first (fiveConditions t) ≡ k → tableNumber t ≡ k → Early
-      at h e f = (e ∙ sym f, omega arith)
+  four-passed : NoneHolds four → Passed t
+  four-passed h = record { size = h .0; entries = h .1 .0; root = h .1 .1 .0; named = h .1 .1 .1 .0 }
 
-      go : Either (badLength t) → Either (badEntry t) → Either (rootHasSibling t) → Either (namedTwice t) → Passed t ⊎ Early
-      go (inl a) _ _ _ = inr (at (omega arith) (simp a) (number-1 t a))
-      go (inr a) (inl b) _ _ = inr (at (omega arith) (simp (a, b)) (number-2 t a b))
-      go (inr a) (inr b) (inl c) _ = inr (at (omega arith) (simp (a, b, c)) (number-3 t a b c))
-      go (inr a) (inr b) (inr c) (inl d) = inr (at (omega arith) (simp (a, b, c, d)) (number-4 t a b c d))
-      go (inr a) (inr b) (inr c) (inr d) = inl (record { size = a; entries = b; root = c; named = d })
+  passed-four : Passed t → NoneHolds four
+  passed-four p = (p .size, (p .entries, (p .root, (p .named, tt))))
 
-  -- else whether a node is not named, and whether one is not reached, decide
-  later : Passed t → (u r : Bool) → unnamed t ≡ u → notReached t ≡ r → (tableNumber t ≡ cond u 5 (cond r 14 0)) × (first (fiveConditions t) ≡ cond r 5 0)
+  past-four : (k : ℕ) → Lacks k four → tableNumber t ≡ k → Passed t × (first two ≡ k)
   unfolding tableNumber tableConditions
-  later p u r e f = (simp (p .size, p .entries, p .root, p .named, e, f), simp (p .size, p .entries, p .root, p .named, f))
+  past-four k l e = let r = first-past four two k l e in (four-passed (r .0), r .1)
 
   -- where the number is 5, there is a node other than 0 that no entry names
   pub stray-there : tableNumber t ≡ 5 → (v : ℕ) × (v < nodes t) × (v ≡ 0 → ⊥) × (count v t ≡ 0)
-  stray-there e = ⊎-elim (λ p. go p (unnamed t) (notReached t) refl refl) (λ h. absurd (omega arith)) early
-    where
-      go : Passed t → (u r : Bool) → unnamed t ≡ u → notReached t ≡ r → (v : ℕ) × (v < nodes t) × (v ≡ 0 → ⊥) × (count v t ≡ 0)
-      go p true r a b = stray t a
-      go p false true a b = absurd (omega (arith, later p false true a b .0))
-      go p false false a b = absurd (omega (arith, later p false false a b .0))
+  stray-there e = stray t (first-holds (5 ⇐ unnamed t) (14 ⇐ notReached t ∷ []) (omega arith) (omega arith) (past-four 5 (omega arith) e .1))
 
   -- the number is 14 exactly where none of 1 to 5 holds and there is a ring
   pub ring-exactly : tableNumber t ≡ 14 ↔ Passed t × (unnamed t ≡ false) × Ring t
-  ring-exactly = (
-    λ e. ⊎-elim (λ p. go e p (unnamed t) (notReached t) refl refl) (λ h. absurd (omega arith)) early,
-    λ c. later (c .0) false true (c .1) (ring-away t (c .0) (c .2)) .0,
-  )
+  unfolding tableNumber tableConditions
+  ring-exactly = (there, λ c. first-passed four two (passed-four (c .0)) ∙ simp (c .1, ring-away t (c .0) (c .2)))
     where
-      go : tableNumber t ≡ 14 → Passed t → (u r : Bool) → unnamed t ≡ u → notReached t ≡ r → Passed t × (unnamed t ≡ false) × Ring t
-      go e p true r a b = absurd (omega (arith, later p true r a b .0))
-      go e p false true a b = (p, a, ring-there t p a b)
-      go e p false false a b = absurd (omega (arith, later p false false a b .0))
+      there : tableNumber t ≡ 14 → Passed t × (unnamed t ≡ false) × Ring t
+      there e =
+          let r = past-four 14 (omega arith) e in
+          let h = first-past (5 ⇐ unnamed t ∷ []) (14 ⇐ notReached t ∷ []) 14 (omega arith) (r .1) in
+          (r .0, h .0 .0, ring-there t (r .0) (h .0 .0) (first-holds (14 ⇐ notReached t) [] (omega arith) tt (h .1)))
 
   -- the same of an operation that tries the table's conditions and then its own, which have other numbers
   pub stray-told : (own : List Condition) → Lacks 5 own → first (tableConditions t ++ own) ≡ 5
       → (v : ℕ) × (v < nodes t) × (v ≡ 0 → ⊥) × (count v t ≡ 0)
-  stray-told own l e = stray-there (table-said t own 5 l (λ z. omega arith) e)
+  stray-told own l e = stray-there (table-said t own 5 l e)
 
   pub ring-told : (own : List Condition) → Lacks 14 own → first (tableConditions t ++ own) ≡ 14 → Ring t
-  ring-told own l e = ring-exactly .0 (table-said t own 14 l (λ z. omega arith) e) .2
+  ring-told own l e = ring-exactly .0 (table-said t own 14 l e) .2
 
   -- with one number for both, every table would have the number that it has, but 5 for 14
   pub number-of-five : first (fiveConditions t) ≡ cond (eqb (tableNumber t) 14) 5 (tableNumber t)
-  number-of-five =
-      ⊎-elim (λ p. go p (unnamed t) (notReached t) refl refl)
-      (λ h. h .0 ∙ sym (ap (λ (b : Bool). cond b 5 (tableNumber t)) (ne-eqb (tableNumber t) 14 (λ e. omega arith))))
-      early
+  unfolding tableNumber tableConditions
+  number-of-five = go (first four) refl
     where
-      same : {k : ℕ} → tableNumber t ≡ k → cond (eqb (tableNumber t) 14) 5 (tableNumber t) ≡ cond (eqb k 14) 5 k
-      same e = ap (λ (k : ℕ). cond (eqb k 14) 5 k) e
+      shown : (k : ℕ) → tableNumber t ≡ k → cond (eqb k 14) 5 k ≡ cond (eqb (tableNumber t) 14) 5 (tableNumber t)
+      shown k e = ap (λ (j : ℕ). cond (eqb j 14) 5 j) (sym e)
 
-      go : Passed t → (u r : Bool) → unnamed t ≡ u → notReached t ≡ r → first (fiveConditions t) ≡ cond (eqb (tableNumber t) 14) 5 (tableNumber t)
-      go p true true a b = let l = later p true true a b in l .1 ∙ sym (same (l .0))
-      go p true false a b = absurd (true≢false (sym a ∙ reached-named t p b))
-      go p false true a b = let l = later p false true a b in l .1 ∙ sym (same (l .0))
-      go p false false a b = let l = later p false false a b in l .1 ∙ sym (same (l .0))
+      later : NoneHolds four → (u r : Bool) → unnamed t ≡ u → notReached t ≡ r
+          → (first (fiveConditions t) ≡ cond r 5 0) × (tableNumber t ≡ cond u 5 (cond r 14 0))
+      later h u r a b = (first-passed four (5 ⇐ notReached t ∷ []) h ∙ simp b, first-passed four two h ∙ simp (a, b))
+
+      told : NoneHolds four → (u r : Bool) → unnamed t ≡ u → notReached t ≡ r → first (fiveConditions t) ≡ cond (eqb (tableNumber t) 14) 5 (tableNumber t)
+      told h true true a b = later h true true a b .0 ∙ shown 5 (later h true true a b .1)
+      told h true false a b =
+          let L = linked t (four-passed h) in
+          absurd (omega (arith, later h true false a b .1, stands-accepted t (treeOf t) (L .even) (reached-numbers t (four-passed h) b) (tree-agrees t L)))
+      told h false true a b = later h false true a b .0 ∙ shown 14 (later h false true a b .1)
+      told h false false a b = later h false false a b .0 ∙ shown 0 (later h false false a b .1)
+
+      go : (k : ℕ) → k ≡ first four → first (fiveConditions t) ≡ cond (eqb (tableNumber t) 14) 5 (tableNumber t)
+      go zero e = told (first-none four (omega arith) (sym e)) (unnamed t) (notReached t) refl refl
+      go (suc k) e =
+          let some : first four ≡ 0 → ⊥ = λ z. omega arith in
+          first-refused four (5 ⇐ notReached t ∷ []) some
+          ∙ sym (ap (λ (b : Bool). cond b 5 (first four)) (ne-eqb (first four) 14 (λ z. omega (arith, first-lacks four 14 (omega arith) z .1))))
+          ∙ shown (first four) (first-refused four two some)
 
   -- so just the same tables would be accepted
   pub accepted-by-five : tableNumber t ≡ 0 ↔ first (fiveConditions t) ≡ 0

@@ -1,6 +1,5 @@
--- One pass over the entries of a table, in lists: which nodes are marked as named, how many entries named one, and whether
--- one of them named a marked node.
--- Assumes nothing.
+-- One pass over the entries of a table, in lists: which nodes are marked as named, how many entries named one, and whether one of them named
+-- a marked node. Assumes nothing.
 use mathlib.Core.Path.{_≡_, refl, sym, ap, _∙_, subst}
 use mathlib.Core.Logic.{_⊎_, inl, inr, ⊎-elim}
 use mathlib.Core.Bool.{Bool, true, false, _||_}

@@ -1,6 +1,7 @@
 -- A table that agrees with a tree on the numbers below n is accepted and stands for that tree. Assumes nothing.
 use mathlib.Core.Path.{_≡_, refl, sym, ap, _∙_, subst}
 use mathlib.Core.Logic.{_⊎_, inl, inr, ⊎-elim}
+use mathlib.Core.Bool.{false}
 use mathlib.Core.List.{List}
 use Prim.Native.Nat.{ℕ, zero, suc, _+_, _*_, _/_, _%_, _≤_, _<_}
 use native.Mathlib.Omega.{arith}
@@ -9,7 +10,7 @@ use Rattle.refusal.proofs.Laws.{first-none, none-first}
 use Rattle.tree.specs.Numbers.{is, count, upTo}
 use Rattle.tree.specs.Table.{none, nodes, firstChild, nextSibling}
 use Rattle.tree.specs.Forest.{Forest, nil, node, forestFrom, forest, treeOf, size, preorder, entry, siblings}
-use Rattle.tree.specs.WellFormed.{tableConditions, tableNumber, Passed}
+use Rattle.tree.specs.WellFormed.{notReached, tableConditions, tableNumber, Passed}
 use Rattle.tree.proofs.Counting.{is-other, count-append, Below, all-left, all-right, sumOver, sumOver-append, sumOver-same, sumOver-upTo, below-upTo, count-upTo, distinct-length, covering-length}
 use Rattle.tree.proofs.Tests.{at-all, counted-all}
 use Rattle.tree.proofs.Reading.{Agrees, names, named-by-rows, size-preorder}
@@ -43,22 +44,18 @@ passed t e =
     let h = first-none (tableConditions t) (omega arith) e in
     record { size = h .0; entries = h .1 .0; root = h .1 .1 .0; named = h .1 .1 .1 .0 }
 
-pub reached : (t : List ℕ) → tableNumber t ≡ 0 → (v : ℕ) → v < nodes t → 1 ≤ count v (preorder (treeOf t))
-unfolding tableNumber tableConditions
-reached t e = all-reached t (first-none (tableConditions t) (omega arith) e .1 .1 .1 .1 .1 .0)
-
 pub accepted-agrees : (t : List ℕ) → tableNumber t ≡ 0 → Agrees t (treeOf t)
 accepted-agrees t e = tree-agrees t (linked t (passed t e))
 
--- the tree of an accepted table has each number below n just once
-pub accepted-numbers : (t : List ℕ) → tableNumber t ≡ 0 → Numbers (nodes t) (treeOf t)
-accepted-numbers t e =
-    let L = linked t (passed t e) in
+-- where every node is reached, the tree has each number below n just once
+pub reached-numbers : (t : List ℕ) → Passed t → notReached t ≡ false → Numbers (nodes t) (treeOf t)
+reached-numbers t p e =
+    let L = linked t p in
     record {
       some = L .some;
       few = L .few;
       below = tree-below t L;
-      each = λ v h. omega (arith, tree-distinct t L v h, reached t e v h);
+      each = λ v h. omega (arith, tree-distinct t L v h, all-reached t e v h);
       root = tree-entry t L;
       alone = single (treeOf t) (tree-entry t L) (tree-agrees t L) (L .alone) (L .few) (tree-below t L);
     }
@@ -68,6 +65,10 @@ accepted-numbers t e =
     single (node v f nil) r a s few b = refl
     single (node v f (node w g h)) r a s few b =
         absurd (omega (arith, all-right (λ x. x < nodes t) (preorder f) (preorder (node w g h)) (b .1) .0, sym (a .1) ∙ ap (nextSibling t) r ∙ s))
+
+pub accepted-numbers : (t : List ℕ) → tableNumber t ≡ 0 → Numbers (nodes t) (treeOf t)
+unfolding tableNumber tableConditions
+accepted-numbers t e = reached-numbers t (passed t e) (first-none (tableConditions t) (omega arith) e .1 .1 .1 .1 .1 .0)
 
 -- so a number that occurs is below n, and none occurs twice
 pub accepted-inside : (t : List ℕ) → tableNumber t ≡ 0 → (v : ℕ) → 1 ≤ count v (preorder (treeOf t)) → v < nodes t

@@ -12,7 +12,7 @@ use Rattle.refusal.proofs.After.{granted-accepted, granted-refused, after-accep
 use Rattle.refusal.proofs.Laws.{first-none}
 use Rattle.tree.specs.Table.{nodes}
 use Rattle.tree.specs.WellFormed.{tableNumber}
-use Rattle.tree.proofs.Number.{table-refused, table-passed, table-first}
+use Rattle.tree.proofs.Number.{table-refused, table-passed, table-said}
 use Rattle.rule.specs.Result.{badSeparation}
 use Rattle.rule.proofs.Separation.{good-separation}
 use Rattle.writer.specs.Write.{sheetFile, ownConditions, writeNumber, SheetWritten}
@@ -53,7 +53,7 @@ module _ (table : List ℕ) (D : ℕ) (tapes out : List ℕ) where
   pub taken : writeNumber table D tapes out ≡ 0 → Taken
   unfolding writeNumber
   taken e =
-      let accepted = table-first table (ownConditions table D tapes out) e in
+      let accepted = table-said table (ownConditions table D tapes out) 0 (omega arith) e in
       let h = first-none (ownConditions table D tapes out) (omega arith) (sym (number-later accepted) ∙ e) in
       let range = good-separation D (h .0) in
       record {
