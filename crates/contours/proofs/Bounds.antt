@@ -8,14 +8,14 @@ use lib.IntN.{ℤ, pos, negsuc, _+ℤ_, natAbs}
 use lib.ListN.{length}
 use Rattle.tree.specs.Forest.{size}
 use Rattle.tree.proofs.Joined.{size-join}
-use Rattle.rule.specs.Drawing.{Drawing, none, at, width, lastPlace, Dot, dot, dots, rowDots}
+use Rattle.rule.specs.Drawing.{Drawing, none, at, width, placeAt, lastPlace, Dot, dot, dots, rowDots}
 use Rattle.rule.specs.Join.{alone}
 use Rattle.rule.proofs.Signed.{parts-add, AtMost}
 use Rattle.rule.proofs.Names.{names, names-draw}
 use Rattle.rule.proofs.Spacing.{row-none}
 use Rattle.rule.proofs.OnLevel.{OnLevel, top, down, on-left, on-right}
 use Rattle.rule.proofs.Width.{Narrow, span, narrow-drawOnto, narrow-none, narrow-alone}
-use Rattle.contours.specs.Rows.{placeAt, rowDrawn, childrenDrawn}
+use Rattle.contours.specs.Rows.{rowDrawn, childrenDrawn}
 use Rattle.level_order.proofs.Positions.{Ordered, mono-le, within, run, run-node, run-nil, run-cut}
 use Rattle.contours.proofs.Places.{row-width, row-first, last-place}
 

@@ -5,11 +5,11 @@ use Prim.Native.Nat.{ℕ, zero, suc, _+_, _-_, _≤_, _<_}
 use native.Mathlib.Nat.{le-refl}
 use native.Mathlib.Omega.{arith}
 use lib.IntN.{ℤ, pos, _-ℤ_}
-use Rattle.rule.specs.Drawing.{Drawing, none, at, width, append, middle}
+use Rattle.rule.specs.Drawing.{Drawing, none, at, width, append, placeAt, middle}
 use Rattle.rule.specs.Join.{Meeting, spread, alone, settled, meetings}
 use Rattle.rule.specs.Join as rule
 use Rattle.rule.proofs.Moving.{width-spread}
-use Rattle.contours.specs.Rows.{placeAt, rowDrawn, childrenDrawn, Offsets}
+use Rattle.contours.specs.Rows.{rowDrawn, childrenDrawn, Offsets}
 use Rattle.level_order.proofs.Positions.{Ordered, within, run-nil}
 use Rattle.contours.proofs.Places.{row-more, row-width, row-first}
 

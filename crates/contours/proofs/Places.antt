@@ -2,34 +2,18 @@
 use mathlib.Core.Path.{_≡_, refl, sym, ap, _∙_}
 use mathlib.Core.List.{List, [], _∷_}
 use Prim.Native.Nat.{ℕ, zero, suc, _+_, _≤_, _<_}
-use native.Mathlib.Nat.{not-suc-le-zero, add-zero, zero-add}
+use native.Mathlib.Nat.{zero-add}
 use native.Mathlib.Omega.{arith}
 use Rattle.tree.specs.Forest.{nil, node}
-use Rattle.rule.specs.Drawing.{Drawing, none, at, width, append, firstPlace, lastPlace}
+use Rattle.rule.specs.Drawing.{Drawing, none, at, width, placeAt, firstPlace, lastPlace}
 use Rattle.rule.specs.Join.{Meeting, shares, spread, start, alone, settled, meetings}
 use Rattle.rule.specs.Join as rule
 use Rattle.rule.specs.Rule.{draw}
-use Rattle.rule.proofs.Moving.{width-join, width-spread}
+use Rattle.rule.proofs.Moving.{width-spread, append-left, append-right, spread-place, width-join}
 use Rattle.rule.proofs.Tight.{drawOnto-join}
 use Rattle.rule.proofs.Shares.{share-none}
-use Rattle.contours.specs.Rows.{placeAt, rowDrawn, childrenDrawn}
+use Rattle.contours.specs.Rows.{rowDrawn, childrenDrawn}
 use Rattle.level_order.proofs.Positions.{Ordered, run, family, run-last, run-nil}
-
-append-left : (d e : Drawing) (p : ℕ) → p < width d → placeAt (append d e) p ≡ placeAt d p
-append-left none e p h = absurd (not-suc-le-zero h)
-append-left (at v x below after) e zero h = refl
-append-left (at v x below after) e (suc p) h = append-left after e p (omega arith)
-
-append-right : (d : Drawing) (v x : ℕ) (below : Drawing) → placeAt (append d (alone v x below)) (width d) ≡ x
-append-right none v x below = refl
-append-right (at w y under after) v x below = append-right after v x below
-
-spread-place : (j : ℕ) (ms : List Meeting) (q : ℕ) (d : Drawing) (p : ℕ) → p < width d → placeAt (spread j ms q d) p ≡ placeAt d p + shares j ms (q + p)
-spread-place j ms q none p h = absurd (not-suc-le-zero h)
-spread-place j ms q (at v x below after) zero h = rw add-zero
-spread-place j ms q (at v x below after) (suc p) h =
-    let next : (q + 1) + p ≡ q + suc p = omega arith in
-    rw next at (spread-place j ms (q + 1) after p (omega arith))
 
 -- after a join a child of the row has moved by its shares, and the new child stands where it settled
 pub join-place : (D : ℕ) (row : Drawing) (v : ℕ) (below : Drawing) (p : ℕ) → p < width row

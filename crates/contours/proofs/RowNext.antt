@@ -8,14 +8,14 @@ use native.Mathlib.Omega.{arith}
 use lib.IntN.{pos, _+ℤ_, +ℤ-assoc}
 use Rattle.tree.specs.Levels.{beside}
 use Rattle.tree.proofs.Counting.{is-cases}
-use Rattle.rule.specs.Drawing.{Drawing, none, width, Dot, dots, rowDots, leftContour, rightContour}
+use Rattle.rule.specs.Drawing.{Drawing, none, width, placeAt, Dot, dots, rowDots, leftContour, rightContour}
 use Rattle.rule.specs.Join.{Meeting, shares, total, start, alone, meetings}
 use Rattle.rule.specs.Join as rule
 use Rattle.rule.proofs.Moving.{shiftBy, moveBy, rowDots-join}
 use Rattle.rule.proofs.Spacing.{Row as RuleRow, Child, alone-child, row-drawOnto, row-none}
 use Rattle.contours.specs.Contours.{LeftSteps, RightSteps}
 use Rattle.contours.specs.Gather.{pending}
-use Rattle.contours.specs.Rows.{Columns, Owned, Row, rowDrawn, childrenDrawn, placeAt}
+use Rattle.contours.specs.Rows.{Columns, Owned, Row, rowDrawn, childrenDrawn}
 use Rattle.level_order.proofs.Positions.{Ordered, run, family}
 use Rattle.contours.proofs.Contour.{left-steps, right-steps, steps-shift, steps-over}
 use Rattle.contours.proofs.Threads.{Rising, rising-drawOnto, left-join, right-join}

@@ -1,10 +1,10 @@
 -- What the working slice holds while the children of one node are joined.
-use Prim.Native.Nat.{ℕ, zero, suc, _+_, _-_, _≤_, _<_}
+use Prim.Native.Nat.{ℕ, suc, _+_, _-_, _≤_, _<_}
 use mathlib.Core.Path.{_≡_}
 use mathlib.Core.Logic.{_⊎_}
 use mathlib.Core.List.{List, [], _∷_}
 use lib.IntN.{ℤ, pos, _+ℤ_, _-ℤ_}
-use Rattle.rule.specs.Drawing.{Drawing, none, at, width, firstPlace, lastPlace, middle, Dot, lastOf, rowDots}
+use Rattle.rule.specs.Drawing.{Drawing, none, at, width, placeAt, firstPlace, lastPlace, middle, Dot, lastOf, rowDots}
 use Rattle.rule.specs.Rule.{draw}
 use Rattle.level_order.specs.LevelOrder.{positions}
 use Rattle.contours.specs.Contours.{LeftSteps, RightSteps}
@@ -23,13 +23,6 @@ Owned ancestor f end default (x ∷ xs) =
     ((ancestor ((lastOf x) .node) ≡ pos (f + (lastOf x) .child))
     ⊎ (Outside f end (ancestor ((lastOf x) .node)) × (default ≡ f + (lastOf x) .child)))
     × Owned ancestor f end default xs
-
--- ---- the place of the child number p of a row
-
-abbrev pub placeAt : Drawing → ℕ → ℕ
-placeAt none p = 0
-placeAt (at v x below after) zero = x
-placeAt (at v x below after) (suc p) = placeAt after p
 
 -- ---- rows and subtrees that are drawn
 

@@ -9,7 +9,7 @@ use lib.IntN.{ℤ, pos, natAbs, +ℤ-idr}
 use lib.ListN.{length, drop}
 use Rattle.tree.specs.Table.{nodes}
 use Rattle.tree.specs.Forest.{treeOf}
-use Rattle.rule.specs.Drawing.{Drawing, none, at, width, lastPlace, Dot, dot, dots, rowDots, firstOf, lastOf, leftContour, rightContour}
+use Rattle.rule.specs.Drawing.{Drawing, none, at, width, placeAt, lastPlace, Dot, dot, dots, rowDots, firstOf, lastOf, leftContour, rightContour}
 use Rattle.rule.specs.Join.{alone, total}
 use Rattle.rule.specs.Join as rule
 use Rattle.rule.proofs.AtOnce.{total-append}
@@ -17,7 +17,6 @@ use Rattle.rule.proofs.OnLevel.{OnLevel}
 use Rattle.rule.proofs.LevelEnds.{last-mem, first-mem}
 use Rattle.level_order.specs.Numbered.{Numbered}
 use Rattle.level_order.specs.Fields.{get, NODE, FIRST, COUNT, ANCESTOR, SHIFT, CHANGE}
-use Rattle.contours.specs.Rows.{placeAt}
 use Rattle.contours.proofs.Runs.{Runs}
 use Rattle.contours.proofs.Walk.{Walking}
 use Rattle.contours.proofs.Walk as walk

@@ -13,13 +13,13 @@ use Rattle.tree.specs.Numbers.{is}
 use Rattle.tree.specs.Table.{nodes}
 use Rattle.tree.proofs.Counting.{is-same}
 use Rattle.tree.proofs.Followed.{accepted-linked}
-use Rattle.rule.specs.Drawing.{Drawing, width, firstPlace, lastPlace, middle}
+use Rattle.rule.specs.Drawing.{Drawing, width, placeAt, firstPlace, lastPlace, middle}
 use Rattle.rule.specs.Join.{above0}
 use Rattle.rule.proofs.Signed.{below0, parts-add}
 use Rattle.level_order.specs.Fields.{get, put, PLACE, LEFT, RIGHT, ANCESTOR, SHIFT, CHANGE}
 use Rattle.contours.specs.Gather.{pending}
 use Rattle.shifts.specs.Shifts.{half, Bounded, Executed}
-use Rattle.contours.specs.Rows.{Subtree, rowDrawn, placeAt}
+use Rattle.contours.specs.Rows.{Subtree, rowDrawn}
 use Rattle.families.specs.Joining.{Given, occurs}
 use Rattle.families.specs.Families.{Ready, AllJoined, FamilyDrawn}
 use Rattle.level_order.proofs.Cells.{put-length, put-same, put-field, put-position, put-rest}

@@ -10,7 +10,7 @@ use lib.ListN.{length}
 use Rattle.tree.specs.Table.{nodes}
 use Rattle.tree.specs.Forest.{Forest, treeOf}
 use Rattle.tree.proofs.Counting.{All}
-use Rattle.rule.specs.Drawing.{none, width, middle, Dot, dots, rowDots, lastOf}
+use Rattle.rule.specs.Drawing.{none, width, placeAt, middle, Dot, dots, rowDots, lastOf}
 use Rattle.rule.specs.Join.{above0, alone}
 use Rattle.rule.specs.Join as rule
 use Rattle.rule.specs.Rule.{draw}
@@ -21,7 +21,7 @@ use Rattle.level_order.specs.Fields.{get, put, NODE, FIRST, COUNT, PLACE, LEFT,
 use Rattle.level_order.specs.Numbered.{Numbered}
 use Rattle.contours.specs.Gather.{gather, pending}
 use Rattle.contours.specs.Contours.{LeftSteps, RightSteps}
-use Rattle.contours.specs.Rows.{Outside, Owned, Subtree, Row, rowDrawn, childrenDrawn, placeAt}
+use Rattle.contours.specs.Rows.{Outside, Owned, Subtree, Row, rowDrawn, childrenDrawn}
 use Rattle.families.specs.Joining.{columnsOf, occurs, Rowed, Given}
 use Rattle.families.specs.Families.{Ready, Begun}
 use Rattle.level_order.proofs.Cells.{put-length, put-same, put-field}

@@ -11,7 +11,7 @@ use Rattle.tree.specs.Numbers.{count}
 use Rattle.tree.proofs.Counting.{All}
 use Rattle.tree.proofs.Stands.{accepted-numbers}
 use Rattle.tree.proofs.Joined.{Some}
-use Rattle.rule.specs.Drawing.{Drawing, none, width, lastPlace, Dot, rowDots}
+use Rattle.rule.specs.Drawing.{Drawing, none, width, placeAt, lastPlace, Dot, rowDots}
 use Rattle.rule.specs.Join.{start, alone, total, meetings}
 use Rattle.rule.specs.Join as rule
 use Rattle.rule.proofs.Names.{names-draw, nodes-dots, nodes-rowDots}
@@ -24,7 +24,7 @@ use Rattle.level_order.proofs.Positions.{Ordered, run, family, run-node, run-ni
 use Rattle.level_order.proofs.InOrder.{ordered}
 use Rattle.level_order.proofs.Occurs.{times-cut}
 use Rattle.contours.specs.Contours.{LeftSteps, RightSteps}
-use Rattle.contours.specs.Rows.{placeAt, rowDrawn, childrenDrawn}
+use Rattle.contours.specs.Rows.{rowDrawn, childrenDrawn}
 use Rattle.contours.proofs.Runs.{Runs, runs-draw, runs-alone}
 use Rattle.contours.proofs.Walk.{Join, Fields}
 use Rattle.contours.proofs.Places.{row-more, row-width, join-new, last-place, start-place}

@@ -7,12 +7,12 @@ use lib.IntN.{ℤ, pos, _-ℤ_}
 use lib.ListN.{length, drop}
 use Rattle.tree.specs.Table.{nodes}
 use Rattle.tree.specs.Forest.{Forest, treeOf}
-use Rattle.rule.specs.Drawing.{middle}
+use Rattle.rule.specs.Drawing.{placeAt, middle}
 use Rattle.rule.specs.Rule.{draw}
 use Rattle.level_order.specs.LevelOrder.{firstAt, positionTree}
 use Rattle.level_order.specs.Fields.{get, PLACE, LEFT, RIGHT, ANCESTOR, SHIFT, CHANGE}
 use Rattle.level_order.specs.Numbered.{Numbered}
-use Rattle.contours.specs.Rows.{Subtree, childrenDrawn, placeAt, Offsets}
+use Rattle.contours.specs.Rows.{Subtree, childrenDrawn, Offsets}
 use Rattle.families.specs.Joining.{occurs, Rowed, Waiting}
 
 -- ---- the joins of one family

@@ -10,9 +10,9 @@ use lib.ListN.{length, drop}
 use Rattle.tree.specs.Forest.{Forest, nil, node}
 use Rattle.rule.specs.Rule.{drawOnto, draw}
 use Rattle.tree.proofs.Counting.{All}
-use Rattle.rule.specs.Drawing.{Drawing, none, at, width, append, Dot, dot, dots, rowDots, lastOf, leftContour, rightContour}
+use Rattle.rule.specs.Drawing.{Drawing, none, at, width, Dot, dot, dots, rowDots, lastOf, leftContour, rightContour}
 use Rattle.rule.specs.Join.{Meeting, needed, shortfall, meet, shares, total, spread, start, alone, rowContour, newContour, join}
-use Rattle.rule.specs.AtOnce.{Joining, step, walkDown, joinAtOnce, drawOntoAtOnce}
+use Rattle.rule.specs.AtOnce.{Joining, withChild, step, walkDown, joinAtOnce, drawOntoAtOnce}
 use Rattle.rule.proofs.Signed.{parts-add, parts-eq}
 use Rattle.tree.proofs.Joined.{Some}
 use Rattle.rule.proofs.Moving.{shiftBy, moveBy, rowDots-spread, alone-shift}
@@ -164,7 +164,7 @@ module _ (D : ℕ) (row : Drawing) (v : ℕ) (below : Drawing) (R : Row D (width
   -- both joins are one
   pub join-at-once : joinAtOnce D row v below ≡ join D row v below
   join-at-once =
-      ap (λ (s : Joining). append (s .row) (alone v (s .place) below))
+      ap (λ (s : Joining). withChild s v below)
       (ap₂ (λ (r : Drawing) (x : ℕ). walkDown D (length (rowContour row)) 0 (width row) v below (record { row = r; place = x }))
       (sym (spread-none (width row) 0 row)) (sym (add-zero (start D row v)))
       ∙ walk-meet (length (rowContour row)) 0 (width row) [] (rowContour row) (newContour D row v below) refl refl (le-refl _)

@@ -2,13 +2,13 @@
 -- child. Assumes nothing.
 use mathlib.Core.Path.{_≡_, refl, sym, ap, ap₂, _∙_}
 use mathlib.Core.List.{List, [], _∷_, map}
-use Prim.Native.Nat.{ℕ, suc, _+_}
-use native.Mathlib.Nat.{add-zero, zero-add}
+use Prim.Native.Nat.{ℕ, zero, suc, _+_, _<_}
+use native.Mathlib.Nat.{not-suc-le-zero, add-zero, zero-add}
 use native.Mathlib.Omega.{arith}
 use lib.IntN.{ℤ, pos, _+ℤ_, _-ℤ_}
 use Rattle.tree.specs.Levels.{beside}
 use Rattle.tree.proofs.Joined.{beside-assoc, beside-nil, map-beside}
-use Rattle.rule.specs.Drawing.{Drawing, none, at, width, append, middle, Dot, dot, dots, rowDots}
+use Rattle.rule.specs.Drawing.{Drawing, none, at, width, append, placeAt, middle, Dot, dot, dots, rowDots}
 use Rattle.rule.specs.Join.{Meeting, shares, total, spread, start, alone, join, meetings, settled}
 use Rattle.rule.proofs.Signed.{parts-add, parts-sub, parts-eq}
 
@@ -96,6 +96,26 @@ rowDots-append i (at v x below after) e =
 width-append : (d e : Drawing) → width (append d e) ≡ width d + width e
 width-append none e = sym (zero-add (width e))
 width-append (at v x below after) e = omega (arith, width-append after e)
+
+-- ---- the places of a row's children
+
+pub append-left : (d e : Drawing) (p : ℕ) → p < width d → placeAt (append d e) p ≡ placeAt d p
+append-left none e p h = absurd (not-suc-le-zero h)
+append-left (at v x below after) e zero h = refl
+append-left (at v x below after) e (suc p) h = append-left after e p (omega arith)
+
+pub append-right : (d : Drawing) (v x : ℕ) (below : Drawing) → placeAt (append d (alone v x below)) (width d) ≡ x
+append-right none v x below = refl
+append-right (at w y under after) v x below = append-right after v x below
+
+pub spread-place : (j : ℕ) (ms : List Meeting) (q : ℕ) (d : Drawing) (p : ℕ) → p < width d → placeAt (spread j ms q d) p ≡ placeAt d p + shares j ms (q + p)
+spread-place j ms q none p h = absurd (not-suc-le-zero h)
+spread-place j ms q (at v x below after) zero h = rw add-zero
+spread-place j ms q (at v x below after) (suc p) h =
+    let next : (q + 1) + p ≡ q + suc p = omega arith in
+    rw next at (spread-place j ms (q + 1) after p (omega arith))
+
+-- ---- a join
 
 pub width-join : (D : ℕ) (row : Drawing) (v : ℕ) (below : Drawing) → width (join D row v below) ≡ suc (width row)
 width-join D row v below =

@@ -13,6 +13,10 @@ pub record Joining : Type 0 where
   pub row : Drawing
   pub place : ℕ
 
+-- the row with the child, and the drawing below it, behind it
+abbrev pub withChild : Joining → ℕ → Drawing → Drawing
+withChild s v below = append (s .row) (alone v (s .place) below)
+
 -- one level, with what is left of the two contours from that level on
 abbrev pub step : ℕ → ℕ → Joining → List Dot → List Dot → Joining
 step separation j s [] ws = s
@@ -32,7 +36,7 @@ walkDown separation (suc k) l j v below s =
 abbrev pub joinAtOnce : ℕ → Drawing → ℕ → Drawing → Drawing
 joinAtOnce separation row v below =
     let s = walkDown separation (length (rowContour row)) 0 (width row) v below (record { row = row; place = start separation row v }) in
-    append (s .row) (alone v (s .place) below)
+    withChild s v below
 
 -- the drawing of a forest by such joins
 abbrev pub drawOntoAtOnce : ℕ → Drawing → Forest → Drawing

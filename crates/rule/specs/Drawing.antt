@@ -1,6 +1,6 @@
 -- Drawings. A drawing is a row of siblings, as a forest is: each node has its place in its row, counted from the row's first node, and
 -- the drawing of its children. A subtree moves with its root, since nothing below the root says where the root stands.
-use Prim.Native.Nat.{ℕ, suc, _+_, _-_, _/_}
+use Prim.Native.Nat.{ℕ, zero, suc, _+_, _-_, _/_}
 use mathlib.Core.List.{List, [], _∷_, map}
 use lib.IntN.{ℤ, pos, _+ℤ_, _-ℤ_}
 use Rattle.tree.specs.Levels.{beside}
@@ -19,7 +19,12 @@ abbrev pub append : Drawing → Drawing → Drawing
 append none e = e
 append (at v x below after) e = at v x below (append after e)
 
--- the place of the first sibling, and of the last
+-- the place of the sibling number p, of the first, and of the last
+abbrev pub placeAt : Drawing → ℕ → ℕ
+placeAt none p = 0
+placeAt (at v x below after) zero = x
+placeAt (at v x below after) (suc p) = placeAt after p
+
 abbrev pub firstPlace : Drawing → ℕ
 firstPlace none = 0
 firstPlace (at v x below after) = x
