@@ -4,33 +4,38 @@ use mathlib.Core.Path.{_≡_, refl, sym, ap, ap₂, _∙_, fun-ext}
 use mathlib.Core.Logic.{⊎-elim}
 use mathlib.Core.Bool.{Bool, cond}
 use Prim.Native.Nat.{ℕ, zero, suc, _+_, _-_, _*_, _≤_, _<_}
+use native.Mathlib.Nat.{mul-le-mul-right, eq-zero-or-pos}
 use native.Mathlib.Omega.{arith}
 use lib.Dec.{ltb}
 use borrow.Author.Tests.{lt-ltb, le-ltb}
-use lib.IntN.{ℤ, pos, _+ℤ_, _-ℤ_, +ℤ-idr, -ℤ-+ℤ-cancel}
+use lib.IntN.{ℤ, pos, natAbs, _+ℤ_}
 use Rattle.tree.specs.Numbers.{is}
-use Rattle.tree.proofs.Counting.{is-same, is-other, is-cases, below-or-not}
-use Rattle.rule.specs.Join.{above0}
-use Rattle.rule.proofs.Signed.{below0, parts-add, parts-eq}
+use Rattle.tree.proofs.Counting.{is-other, is-cases, below-or-not}
+use Rattle.rule.specs.Join.{above0, quotient, remainder, evenly}
+use Rattle.rule.proofs.Signed.{below0, one-part, parts-add, parts-eq, natAbs-parts, natAbs-add}
+use Rattle.rule.proofs.Shares.{whole-shared, remainder-small}
 use Rattle.contours.specs.Gather.{Carried, carry, gather, pending}
 
--- the shifts and changes after a meeting of the children at i and j, with the quotient q
-pub record Met (shift change shift′ change′ : ℕ → ℤ) (i j q : ℕ) : Type 0 where
-  pub right-shift : shift′ j ≡ shift j +ℤ pos ((j - i) * q)
-  pub other-shift : (p : ℕ) → (p ≡ j → ⊥) → shift′ p ≡ shift p
-  pub right-change : change′ j ≡ change j -ℤ pos q
-  pub left-change : change′ i ≡ change i +ℤ pos q
-  pub other-change : (p : ℕ) → (p ≡ j → ⊥) → (p ≡ i → ⊥) → change′ p ≡ change p
+-- one entry, of the amount s at position a
+abbrev pub entry : ℕ → ℕ → ℕ → ℤ
+entry a s w = pos (is w a * s)
+
+-- The shifts and changes after a meeting of the children at i and j with the amount s, of which every gap between them gets q, and the r
+-- rightmost one more: the shift at j has grown by s, and the change by q at i, by 1 at r children before j, and by -(q + 1) at j.
+pub record Met (shift change shift′ change′ : ℕ → ℤ) (i j s : ℕ) : Type 0 where
+  pub shifts : (w : ℕ) → shift′ w ≡ shift w +ℤ entry j s w
+  pub changes : (w : ℕ)
+      → change′ w +ℤ entry j (quotient (j - i) s + 1) w ≡ (change w +ℤ entry (j - remainder (j - i) s) 1 w) +ℤ entry i (quotient (j - i) s) w
 
 -- the share of the child at position p
 abbrev pub shareAt : ℕ → ℕ → ℕ → ℕ → ℕ
-shareAt i j q p = cond (ltb p j) ((p - i) * q) 0
+shareAt i j s p = cond (ltb p j) (evenly (j - i) s (p - i)) 0
 
-pub share-right : (i j q p : ℕ) → j ≤ p → shareAt i j q p ≡ 0
-share-right i j q p h = ap (λ (b : Bool). cond b ((p - i) * q) 0) (le-ltb p j h)
+pub share-right : (i j s p : ℕ) → j ≤ p → shareAt i j s p ≡ 0
+share-right i j s p h = ap (λ (b : Bool). cond b (evenly (j - i) s (p - i)) 0) (le-ltb p j h)
 
-pub share-left : (i j q p : ℕ) → p < j → shareAt i j q p ≡ (p - i) * q
-share-left i j q p h = ap (λ (b : Bool). cond b ((p - i) * q) 0) (lt-ltb p j h)
+pub share-left : (i j s p : ℕ) → p < j → shareAt i j s p ≡ evenly (j - i) s (p - i)
+share-left i j s p h = ap (λ (b : Bool). cond b (evenly (j - i) s (p - i)) 0) (lt-ltb p j h)
 
 -- ---- a pass over sums is the sum of two passes
 
@@ -58,16 +63,6 @@ pub pending-both : (s t c d : ℕ → ℤ) (end p : ℕ) → pending (λ w. s w 
 pending-both s t c d end p = ap (λ (g : Carried). g .sum) (gather-both s t c d end (end - suc p))
 
 -- ---- a pass over one shift and one change
-
--- one entry, of the amount s at position a
-abbrev pub entry : ℕ → ℕ → ℕ → ℤ
-entry a s w = pos (is w a * s)
-
-entry-at : (a s : ℕ) → entry a s a ≡ pos s
-entry-at a s = ap pos (omega (arith, ap (λ (k : ℕ). k * s) (is-same a a refl)))
-
-entry-off : (a s w : ℕ) → (w ≡ a → ⊥) → entry a s w ≡ pos 0
-entry-off a s w d = ap pos (omega (arith, ap (λ (k : ℕ). k * s) (is-other w a d)))
 
 -- 1 where position w is before a, else 0
 abbrev pub ahead : ℕ → ℕ → ℕ
@@ -105,46 +100,108 @@ pending-entries a s b q end p ha hb h =
 
 -- ---- a meeting
 
+-- the r rightmost of k gaps get an odd unit: of those left of p (p - i) - (k - r), and of the j - p right of it all but j - r - p
+odd-units : (i j k r p : ℕ) → i + k ≡ j → r < k → p < j → r + (j - r - p) ≡ ((p - i) - (k - r)) + (j - p)
+odd-units i j k r p e h l = omega arith
+
+-- k gaps of q and r more make s, seen from a child with a gaps on its left and b on its right
+add-up : (k q r s a b c d e : ℕ) → k * q + r ≡ s → k + c ≡ a + b → r + d ≡ e + b → (1 * s + d * 1) + c * q ≡ (a * q + e) + b * (q + 1)
+add-up k q r s a b c d e whole sums odd = omega (arith, ap (λ (x : ℕ). x * q) sums)
+
 -- what each child moves by, from the entries that the meeting adds on either side
-shares-met : (i j q p : ℕ) → i < j → ahead p j * ((j - i) * q) + (i - p) * q ≡ shareAt i j q p + (j - p) * q
-shares-met i j q p h =
-    ⊎-elim (λ k.
-    let one : ahead p j ≡ 1 = omega (arith, k .0) in
-    let sums : (j - i) + (i - p) ≡ (p - i) + (j - p) = omega (arith, k .0) in
-    omega (arith, ap (λ (x : ℕ). x * ((j - i) * q)) one, ap (λ (x : ℕ). x * q) sums, share-left i j q p (k .0)))
-    (λ k.
-    let none : ahead p j ≡ 0 = omega (arith, k .0) in
-    let left : i - p ≡ 0 = omega (arith, k .0) in
-    let right : j - p ≡ 0 = omega (arith, k .0) in
-    omega (arith, ap (λ (x : ℕ). x * ((j - i) * q)) none, ap (λ (x : ℕ). x * q) left, ap (λ (x : ℕ). x * q) right, share-right i j q p (k .0)))
+shares-met : (i j s p : ℕ) → i < j
+    → (ahead p j * s + (j - remainder (j - i) s - p) * 1) + (i - p) * quotient (j - i) s ≡ shareAt i j s p + (j - p) * (quotient (j - i) s + 1)
+unfolding evenly
+shares-met i j s p h =
+    let gaps : i + (j - i) ≡ j = omega arith in
+    let some : 0 < j - i = omega arith in
+    ⊎-elim (λ l.
+    let one : ahead p j ≡ 1 = omega (arith, l .0) in
+    ap (λ (x : ℕ). (x * s + (j - r - p) * 1) + (i - p) * q) one
+    ∙ add-up (j - i) q r s (p - i) (j - p) (i - p) (j - r - p) _ (whole-shared (j - i) s) (omega (arith, l .0))
+    (odd-units i j (j - i) r p gaps (remainder-small (j - i) s some) (l .0))
+    ∙ ap (λ (x : ℕ). x + (j - p) * (q + 1)) (sym (share-left i j s p (l .0))))
+    (λ l.
+    let none : ahead p j ≡ 0 = omega (arith, l .0) in
+    let left : i - p ≡ 0 = omega (arith, l .0) in
+    let right : j - p ≡ 0 = omega (arith, l .0) in
+    rw (none, left, right, past r (l .0), share-right i j s p (l .0)) (omega arith))
     (below-or-not p j)
+  where
+    q : ℕ
+    q = quotient (j - i) s
 
-cancel : (y z : ℤ) (k l n : ℕ) → y +ℤ pos k ≡ z +ℤ pos l → l ≡ n + k → y ≡ z +ℤ pos n
-cancel y z k l n e h =
-    parts-eq y (z +ℤ pos n) (omega (arith, ap above0 e, ap below0 e, parts-add y (pos k), parts-add z (pos l), parts-add z (pos n)))
+    r : ℕ
+    r = remainder (j - i) s
 
-module _ {shift change shift′ change′ : ℕ → ℤ} {i j q : ℕ} (end : ℕ) (M : Met shift change shift′ change′ i j q) (before : i < j) (inside : j < end) where
-  met-shift : (w : ℕ) → shift′ w +ℤ entry j 0 w ≡ shift w +ℤ entry j ((j - i) * q) w
-  met-shift w =
-      ⊎-elim (λ h. rw (h .0, entry-at j 0, entry-at j ((j - i) * q), M .right-shift) (+ℤ-idr (shift j +ℤ pos ((j - i) * q))))
-      (λ h. rw (entry-off j 0 w (h .0), entry-off j ((j - i) * q) w (h .0), M .other-shift w (h .0)))
-      (is-cases w j)
+    past : (x : ℕ) → j ≤ p → j - x - p ≡ 0
+    past x h = omega arith
 
-  met-change : (w : ℕ) → change′ w +ℤ entry j q w ≡ change w +ℤ entry i q w
-  met-change w =
-      ⊎-elim (λ h. rw (h .0, entry-at j q, entry-off i q j (λ e. omega arith), M .right-change) (-ℤ-+ℤ-cancel (change j) (pos q) ∙ sym (+ℤ-idr (change j))))
-      (λ d. ⊎-elim (λ h. rw (h .0, entry-at i q, entry-off j q i (λ e. omega arith), M .left-change) (+ℤ-idr (change i +ℤ pos q)))
-      (λ h. rw (entry-off j q w (d .0), entry-off i q w (h .0), M .other-change w (d .0) (h .0)))
-      (is-cases w i))
-      (is-cases w j)
+cancel : (y z : ℤ) (k l m n : ℕ) → y +ℤ pos k ≡ (z +ℤ pos l) +ℤ pos m → l + m ≡ n + k → y ≡ z +ℤ pos n
+cancel y z k l m n e h =
+    parts-eq y (z +ℤ pos n)
+    (omega (arith, ap above0 e, ap below0 e, parts-add y (pos k), parts-add z (pos l), parts-add (z +ℤ pos l) (pos m), parts-add z (pos n)))
+
+module _ {shift change shift′ change′ : ℕ → ℤ} {i j s : ℕ} (end : ℕ) (M : Met shift change shift′ change′ i j s) (before : i < j) (inside : j < end) where
+  abbrev q : ℕ
+  q = quotient (j - i) s
+
+  abbrev raised : ℕ
+  raised = j - remainder (j - i) s
 
   -- every child moves by its share more than before
-  pub pending-met : (p : ℕ) → p < end → pending shift′ change′ end p ≡ pending shift change end p +ℤ pos (shareAt i j q p)
+  pub pending-met : (p : ℕ) → p < end → pending shift′ change′ end p ≡ pending shift change end p +ℤ pos (shareAt i j s p)
   pending-met p h =
-      let same = sym (pending-both shift′ (entry j 0) change′ (entry j q) end p)
-      ∙ ap₂ (λ (s c : ℕ → ℤ). pending s c end p) (fun-ext met-shift) (fun-ext met-change)
-      ∙ pending-both shift (entry j ((j - i) * q)) change (entry i q) end p in
-      cancel (pending shift′ change′ end p) (pending shift change end p) _ _ _
-      (ap (λ (z : ℤ). pending shift′ change′ end p +ℤ z) (sym (pending-entries j 0 j q end p inside inside h)) ∙ same
-      ∙ ap (λ (z : ℤ). pending shift change end p +ℤ z) (pending-entries j ((j - i) * q) i q end p inside (omega arith) h))
-      (omega (arith, shares-met i j q p before))
+      cancel (pending shift′ change′ end p) (pending shift change end p) _ _ _ _
+      (ap (λ (z : ℤ). pending shift′ change′ end p +ℤ z) (sym (pending-entries j 0 j (q + 1) end p inside inside h))
+      ∙ sym (pending-both shift′ (entry j 0) change′ (entry j (q + 1)) end p)
+      ∙ ap₂ (λ (u v : ℕ → ℤ). pending u v end p) (fun-ext (λ w. ap (λ (z : ℤ). z +ℤ entry j 0 w) (M .shifts w))) (fun-ext (M .changes))
+      ∙ pending-both (λ w. shift w +ℤ entry j s w) (entry j 0) (λ w. change w +ℤ entry raised 1 w) (entry i q) end p
+      ∙ ap₂ _+ℤ_ (pending-both shift (entry j s) change (entry raised 1) end p) (pending-entries j 0 i q end p inside (omega arith) h)
+      ∙ ap (λ (z : ℤ). (pending shift change end p +ℤ z) +ℤ pos (ahead p j * 0 + (i - p) * q)) (pending-entries j s raised 1 end p inside (omega arith) h))
+      (omega (arith, shares-met i j s p before))
+
+-- ---- how far the numbers can grow
+
+-- at no position do q at i, 1 at r before j and -(q + 1) at j make more than s
+entries-small : (i j k q r s w : ℕ) → i + k ≡ j → r < k → k * q + r ≡ s
+    → (is w (j - r) * 1 + is w i * q ≤ s + is w j * (q + 1)) × (is w j * (q + 1) ≤ s + (is w (j - r) * 1 + is w i * q))
+entries-small i j k q r s w e h whole =
+    let one : 1 ≤ k = omega arith in
+    let most : q + r ≤ s = omega (arith, mul-le-mul-right q one) in
+    ⊎-elim (λ a.
+    let off : is w i ≡ 0 = is-other w i (λ x. omega (arith, a .0)) in
+    ⊎-elim (λ b. rw (a .1, b .1, off) (omega arith)) (λ b. let some : 0 < r = positive (a .0) (b .0) in rw (a .1, b .1, off) (omega arith)) (is-cases w (j - r)))
+    (λ a. ⊎-elim (λ b.
+    let some : 0 < r = behind (a .0) (b .0) in
+    rw (a .1, b .1, is-other w i (λ x. omega (arith, b .0))) (omega arith))
+    (λ b. ⊎-elim (λ d. rw (a .1, b .1, d .1) (omega arith)) (λ d. rw (a .1, b .1, d .1) (omega arith)) (is-cases w i))
+    (is-cases w (j - r)))
+    (is-cases w j)
+  where
+    positive : w ≡ j → (w ≡ j - r → ⊥) → 0 < r
+    positive same other = ⊎-elim (λ z. absurd (other (omega arith))) (λ p. p) (eq-zero-or-pos r)
+
+    behind : (w ≡ j → ⊥) → w ≡ j - r → 0 < r
+    behind other same = ⊎-elim (λ z. absurd (other (omega arith))) (λ p. p) (eq-zero-or-pos r)
+
+module _ {shift change shift′ change′ : ℕ → ℤ} {i j s : ℕ} (M : Met shift change shift′ change′ i j s) (before : i < j) where
+  pub shift-grown : (w : ℕ) → natAbs (shift′ w) ≤ natAbs (shift w) + s
+  shift-grown w =
+      let added = natAbs-add (shift w) (entry j s w) in
+      let now = ap natAbs (M .shifts w) in
+      ⊎-elim (λ h. omega (arith, ap (λ (x : ℕ). x * s) (h .1))) (λ h. omega (arith, ap (λ (x : ℕ). x * s) (h .1))) (is-cases w j)
+
+  pub change-grown : (w : ℕ) → natAbs (change′ w) ≤ natAbs (change w) + s
+  change-grown w =
+      let gaps : i + (j - i) ≡ j = omega arith in
+      let some : 0 < j - i = omega arith in
+      let b = entries-small i j (j - i) (quotient (j - i) s) (remainder (j - i) s) s w gaps (remainder-small (j - i) s some) (whole-shared (j - i) s) in
+      grown (change′ w) (change w) _ _ _ s (M .changes w) (b .0) (b .1)
+    where
+      grown : (y z : ℤ) (a b d s : ℕ) → y +ℤ pos a ≡ (z +ℤ pos b) +ℤ pos d → b + d ≤ s + a → a ≤ s + (b + d) → natAbs y ≤ natAbs z + s
+      grown y z a b d s e h g =
+          let left = parts-add y (pos a) in
+          let right = parts-add (z +ℤ pos b) (pos d) in
+          let inner = parts-add z (pos b) in
+          ⊎-elim (λ p. omega (arith, natAbs-parts y, natAbs-parts z, ap above0 e, ap below0 e)) (λ p. omega (arith, natAbs-parts y, natAbs-parts z, ap above0 e, ap below0 e)) (one-part y)

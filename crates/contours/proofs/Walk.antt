@@ -3,15 +3,16 @@
 use mathlib.Core.Path.{_≡_, refl, sym, ap, ap₂, _∙_}
 use mathlib.Core.Logic.{_⊎_, ⊎-elim}
 use mathlib.Core.List.{List, [], _∷_, _++_, append-assoc}
-use Prim.Native.Nat.{ℕ, _+_, _-_, _*_, _/_, _≤_, _<_}
-use native.Mathlib.Nat.{le-trans, zero-div, mul-zero}
+use Prim.Native.Nat.{ℕ, _+_, _-_, _≤_, _<_}
+use native.Mathlib.Nat.{le-trans, add-zero}
 use native.Mathlib.Omega.{arith}
 use lib.IntN.{ℤ, pos, _+ℤ_, _-ℤ_, +ℤ-idr, +ℤ-assoc}
 use lib.ListN.{length, length-append}
 use Rattle.tree.proofs.Counting.{All, all-append, all-left, all-right, all-weaken}
 use Rattle.rule.specs.Drawing.{Dot, firstOf, lastOf, leftContour, rightContour}
-use Rattle.rule.specs.Join.{Meeting, above0, shortfall, meet, shares, total}
+use Rattle.rule.specs.Join.{Meeting, above0, shortfall, meet, evenly, share, shares, total}
 use Rattle.rule.proofs.Signed.{below0, parts-add, parts-sub, parts-eq}
+use Rattle.rule.proofs.Shares.{share-le}
 use Rattle.rule.proofs.AtOnce.{shares-append, total-append}
 use Rattle.contours.specs.Contours.{LeftSteps, RightSteps}
 use Rattle.contours.specs.Gather.{pending}
@@ -104,12 +105,12 @@ step-to {p} {q} {h} {v} ev eh = parts-eq (v +ℤ h) q (omega (arith, ap above0 e
 -- the fields after child i, of the row, was met with the amount s, and the new child's node z was marked
 pub record Turned (J : Join) (old new : Fields) (i s z : ℕ) : Type 0 where
   pub moves : ((s ≡ 0) × (new .shift ≡ old .shift) × (new .change ≡ old .change))
-      ⊎ Met (old .shift) (old .change) (new .shift) (new .change) (J .f + i) (J .c) (s / (J .c - (J .f + i)))
+      ⊎ Met (old .shift) (old .change) (new .shift) (new .change) (J .f + i) (J .c) s
   pub mark : new .ancestor z ≡ pos (J .c)
   pub others : (w : ℕ) → (w ≡ z → ⊥) → new .ancestor w ≡ old .ancestor w
 
 module _ {J : Join} {old new : Fields} {i s z : ℕ} (T : Turned J old new i s z) (row : J .f + i < J .c) where
-  turned-by : (p n : ℕ) → p < J .end → (s ≡ 0 → n ≡ 0) → shareAt (J .f + i) (J .c) (s / (J .c - (J .f + i))) p ≡ n → pendingIn J new p ≡ pendingIn J old p +ℤ pos n
+  turned-by : (p n : ℕ) → p < J .end → (s ≡ 0 → n ≡ 0) → shareAt (J .f + i) (J .c) s p ≡ n → pendingIn J new p ≡ pendingIn J old p +ℤ pos n
   turned-by p n h none share =
       ⊎-elim (λ q. ap₂ (λ (u v : ℕ → ℤ). pending u v (J .end) p) (q .1) (q .2) ∙ sym (+ℤ-idr (pendingIn J old p)) ∙ ap (λ (k : ℕ). pendingIn J old p +ℤ pos k) (sym (none (q .0))))
       (λ M. pending-met (J .end) M row (J .inside) p h ∙ ap (λ (k : ℕ). pendingIn J old p +ℤ pos k) share)
@@ -118,18 +119,18 @@ module _ {J : Join} {old new : Fields} {i s z : ℕ} (T : Turned J old new i s z
   turned-moves : Moves J old new (record { child = i; amount = s } ∷ [])
   turned-moves =
       record {
-        row = λ p h k. turned-by p _ (omega (arith, J .inside)) (none p) (share-left (J .f + i) (J .c) (s / (J .c - (J .f + i))) p k ∙ same-share p);
-        beyond = λ p h k. turned-by p 0 k (λ e. refl) (share-right (J .f + i) (J .c) (s / (J .c - (J .f + i))) p h) ∙ +ℤ-idr (pendingIn J old p);
+        row = λ p h k. turned-by p _ (omega (arith, J .inside)) (none p k) (share-left (J .f + i) (J .c) s p k ∙ same-share p);
+        beyond = λ p h k. turned-by p 0 k (λ e. refl) (share-right (J .f + i) (J .c) s p h) ∙ +ℤ-idr (pendingIn J old p);
       }
     where
-      none : (p : ℕ) → s ≡ 0 → (p - J .f - i) * (s / (J .c - J .f - i)) + 0 ≡ 0
-      none p e = rw (e, zero-div, mul-zero)
+      none : (p : ℕ) → p < J .c → s ≡ 0 → share (J .c - J .f) (record { child = i; amount = s }) (p - J .f) + 0 ≡ 0
+      none p h e = let inside : p - J .f ≤ J .c - J .f = omega arith in omega (arith, share-le (J .c - J .f) (record { child = i; amount = s }) (p - J .f) inside)
 
-      same-share : (p : ℕ) → (p - (J .f + i)) * (s / (J .c - (J .f + i))) ≡ (p - J .f - i) * (s / (J .c - J .f - i)) + 0
+      same-share : (p : ℕ) → evenly (J .c - (J .f + i)) s (p - (J .f + i)) ≡ share (J .c - J .f) (record { child = i; amount = s }) (p - J .f) + 0
       same-share p =
           let near : p - (J .f + i) ≡ p - J .f - i = omega arith in
           let far : J .c - (J .f + i) ≡ J .c - J .f - i = omega arith in
-          rw (near, far) (omega arith)
+          rw (near, far) (sym (add-zero _))
 
 -- ---- a level
 

@@ -3,7 +3,7 @@ use mathlib.Core.Path.{_≡_, refl, sym, ap, _∙_, subst, subst₂, fun-ext}
 use mathlib.Core.Logic.{_⊎_, inl, inr, ⊎-elim}
 use mathlib.Core.Bool.{Bool, cond}
 use mathlib.Core.List.{List, [], _∷_, _++_}
-use Prim.Native.Nat.{ℕ, suc, _+_, _-_, _*_, _/_, _≤_, _<_}
+use Prim.Native.Nat.{ℕ, suc, _+_, _-_, _*_, _≤_, _<_}
 use native.Mathlib.Omega.{arith}
 use borrow.Author.Tests.{ne-eqb}
 use lib.IntN.{ℤ, pos, natAbs, _+ℤ_, _-ℤ_}
@@ -116,16 +116,16 @@ module _ {K : Joining} {now : List ℤ} {s : Stand} (C : Contour K now s) where
   mid-field : (g p : ℕ) → g < SHIFT → get mid g p ≡ get now g p
   mid-field g p h = mid-law (λ l. get l g p ≡ get now g p) refl (shared-field now i c close g p h)
 
-  mid-position : (g p : ℕ) → g < 16 → (p ≡ i → ⊥) → (p ≡ c → ⊥) → get mid g p ≡ get now g p
-  mid-position g p h a b = mid-law (λ l. get l g p ≡ get now g p) refl (shared-position now i c close g p h a b)
+  mid-position : (g p : ℕ) → g < 16 → (p < i) ⊎ (c < p) → get mid g p ≡ get now g p
+  mid-position g p h o = mid-law (λ l. get l g p ≡ get now g p) refl (shared-position now i c close met-before-c g p h o)
 
   mid-rest : drop (16 * nodes t) mid ≡ drop (16 * nodes t) now
   mid-rest = mid-law (λ l. drop (16 * nodes t) l ≡ drop (16 * nodes t) now) refl (shared-rest now i c close met-before-c (nodes t) (small-n K))
 
-  mid-grown : (g p : ℕ) → g < 16 → natAbs (get mid g p) ≤ natAbs (get now g p) + close
-  mid-grown g p h =
+  mid-grown : (g p : ℕ) → SHIFT ≤ g → g ≤ CHANGE → natAbs (get mid g p) ≤ natAbs (get now g p) + close
+  mid-grown g p l h =
       mid-law (λ w. natAbs (get w g p) ≤ natAbs (get now g p) + close) (omega arith)
-      (shared-grown now i c close met-before-c (omega (arith, inside, small-n K)) g p h)
+      (shared-grown now i c close met-before-c (omega (arith, inside, small-n K)) g p l h)
 
   -- ---- the mark
 
@@ -161,7 +161,7 @@ module _ {K : Joining} {now : List ℤ} {s : Stand} (C : Contour K now s) where
       subst (λ (m : ℕ). Turned (J K) old new ((lastOf (W .x)) .child) m ((lastOf (W .y)) .node)) same-close
       (record {
         moves = ⊎-elim (λ e. inl (e .0, same-shift ∙ ap (λ (l : List ℤ). get l SHIFT) (e .1), same-change ∙ ap (λ (l : List ℤ). get l CHANGE) (e .1)))
-            (λ e. inr (subst₂ (λ (u v : ℕ → ℤ). Met (old .shift) (old .change) u v i c (close / (c - i)))
+            (λ e. inr (subst₂ (λ (u v : ℕ → ℤ). Met (old .shift) (old .change) u v i c close)
             (sym (same-shift ∙ ap (λ (l : List ℤ). get l SHIFT) e)) (sym (same-change ∙ ap (λ (l : List ℤ). get l CHANGE) e))
             (shared-met now i c close met-before-c (omega (arith, inside, small-n K)))))
             mid-cases;
@@ -198,11 +198,10 @@ module _ {K : Joining} {now : List ℤ} {s : Stand} (C : Contour K now s) where
         field = λ g p h. next-field g p (omega arith) (λ e. omega arith) ∙ mid-field g p (omega arith) ∙ C .kept .field g p h;
         still = λ g p l r q.
             next-field g p (omega arith) (λ e. omega arith)
-            ∙ mid-position g p (omega arith)
-            (λ e. ⊎-elim (λ h. omega (arith, h, e)) (λ h. omega (arith, h, e, met-before-c)) q) (λ e. ⊎-elim (λ h. omega (arith, h, e, S K .some)) (λ h. omega (arith, h, e)) q)
+            ∙ mid-position g p (omega arith) (⊎-elim (λ h. inl (omega (arith, h))) inr q)
             ∙ C .kept .still g p l r q;
         small = λ g p l r h q.
-            omega (arith, ap natAbs (next-field g p (omega arith) (λ e. omega arith)), mid-grown g p (omega arith), C .kept .small g p l r h q);
+            omega (arith, ap natAbs (next-field g p (omega arith) (λ e. omega arith)), mid-grown g p l r, C .kept .small g p l r h q);
         ancestor = λ z. ⊎-elim
             (λ e. inr (ap (get next ANCESTOR) (e .0) ∙ next-mark, subst (λ (w : ℕ). 1 ≤ occurs t c (suc c) w) (sym (e .0)) (child-on K (lastOf (W .y)) _ (last-child-on C))))
             (λ d. ⊎-elim (λ e. inl (next-others z (d .0) ∙ e)) (λ e. inr (next-others z (d .0) ∙ e .0, e .1)) (C .kept .ancestor z))

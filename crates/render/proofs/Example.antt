@@ -5,6 +5,7 @@ use Prim.Native.Nat.{ℕ}
 use Rattle.tree.specs.Forest.{forest, treeOf}
 use Rattle.tree.specs.Levels.{level, levelCount}
 use Rattle.tree.specs.WellFormed.{badLength, badEntry, rootHasSibling, namedTwice, unnamed, notReached, tableConditions, tableNumber}
+use Rattle.rule.specs.Join.{evenly}
 use Rattle.rule.specs.Rule.{drawn}
 use Rattle.rule.specs.Result.{place, placesOf, levelsOf}
 use Rattle.sheet.specs.Below.{total, every, joined}
@@ -31,7 +32,7 @@ unfolding total every joined wordAt bytesOf blockAt wordSum sound closing inPlac
 file-read = (refl, refl, refl, refl)
 
 table-printed : tableText 3 links tapes ≡ lines
-unfolding forest treeOf level levelCount badLength badEntry rootHasSibling namedTwice unnamed notReached tableConditions tableNumber drawn place placesOf levelsOf decimalWithin decimal signedDecimal sheetLine nodeLine nodeLines drawnListing tableText
+unfolding forest treeOf level levelCount badLength badEntry rootHasSibling namedTwice unnamed notReached tableConditions tableNumber evenly drawn place placesOf levelsOf decimalWithin decimal signedDecimal sheetLine nodeLine nodeLines drawnListing tableText
 table-printed = refl
 
 pub example-printed : sheetText file ≡ lines

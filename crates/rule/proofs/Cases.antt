@@ -10,6 +10,7 @@ use Rattle.tree.specs.Forest.{forest, treeOf}
 use Rattle.tree.specs.Levels.{level, levelCount, neighbours}
 use Rattle.tree.specs.WellFormed.{badLength, badEntry, rootHasSibling, namedTwice, unnamed, notReached, tableConditions}
 use Rattle.refusal.specs.After.{overwrite, after}
+use Rattle.rule.specs.Join.{evenly}
 use Rattle.rule.specs.Rule.{drawn}
 use Rattle.rule.specs.Result.{place, placesOf, levelsOf, Slices, Answer, Layout, badSeparation, shortResults, shortWork, layoutNumber}
 use Rattle.rule.proofs.Fixed.{answered, returned, fixed}
@@ -114,7 +115,7 @@ expected =
     (0 ∷ 1 ∷ 1 ∷ 1 ∷ [])
     (1 ∷ 2 ∷ 2 ∷ 3 ∷ [])
     ∷ drawing 15 3 (minus 18) (pos 18) 12
-    (pos 0 ∷ minus 10 ∷ minus 18 ∷ minus 14 ∷ minus 10 ∷ minus 6 ∷ minus 2 ∷ minus 4 ∷ pos 2 ∷ pos 10 ∷ pos 2 ∷ pos 6 ∷ pos 10 ∷ pos 14 ∷ pos 18 ∷ [])
+    (pos 0 ∷ minus 10 ∷ minus 18 ∷ minus 14 ∷ minus 10 ∷ minus 6 ∷ minus 2 ∷ minus 4 ∷ pos 3 ∷ pos 10 ∷ pos 2 ∷ pos 6 ∷ pos 10 ∷ pos 14 ∷ pos 18 ∷ [])
     (0 ∷ 1 ∷ 2 ∷ 2 ∷ 2 ∷ 2 ∷ 2 ∷ 1 ∷ 1 ∷ 1 ∷ 2 ∷ 2 ∷ 2 ∷ 2 ∷ 2 ∷ [])
     (1 ∷ 7 ∷ 7 ∷ 8 ∷ 8 ∷ 9 ∷ 2 ∷ 3 ∷ 3 ∷ 4 ∷ 4 ∷ 5 ∷ 5 ∷ 6 ∷ 6 ∷ 10 ∷ 10 ∷ 11 ∷ 11 ∷ 12 ∷ 12 ∷ 13 ∷ 13 ∷ 14 ∷ [])
     ∷ drawing 23 4 (minus 12) (pos 10) 19
@@ -129,7 +130,7 @@ expected =
     ∷ []
 
 pub checked : map outcome sheets ≡ expected
-unfolding outcome sheets expected drawing refused minus lent leaves inner outer sheet forest treeOf level levelCount neighbours badLength badEntry rootHasSibling namedTwice unnamed notReached tableConditions drawn place placesOf levelsOf badSeparation shortResults shortWork layoutNumber overwrite after
+unfolding outcome sheets expected drawing refused minus lent leaves inner outer sheet forest treeOf level levelCount neighbours badLength badEntry rootHasSibling namedTwice unnamed notReached tableConditions evenly drawn place placesOf levelsOf badSeparation shortResults shortWork layoutNumber overwrite after
 checked = refl
 
 -- whatever meets the layout's contract gives that outcome

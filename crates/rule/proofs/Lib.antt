@@ -24,6 +24,7 @@ pub mod Corresponding
 pub mod Tight
 pub mod Extremes
 pub mod AtOnce
+pub mod Gaps
 pub mod Separation
 pub mod Fixed
 pub mod Cases

@@ -51,6 +51,9 @@ pub natAbs-parts : (z : ℤ) → natAbs z ≡ above0 z + below0 z
 natAbs-parts (pos n) = omega arith
 natAbs-parts (negsuc n) = omega arith
 
+pub natAbs-neg : (z : ℤ) → natAbs (negℤ z) ≡ natAbs z
+natAbs-neg z = let n = natAbs-parts z in let m = natAbs-parts (negℤ z) in omega (arith, parts-neg z)
+
 pub natAbs-add : (x y : ℤ) → natAbs (x +ℤ y) ≤ natAbs x + natAbs y
 natAbs-add x y =
     let a = natAbs-parts x in

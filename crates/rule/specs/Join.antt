@@ -47,10 +47,21 @@ abbrev pub total : List Meeting → ℕ
 total [] = 0
 total (m ∷ ms) = m .amount + total ms
 
--- The share of child p in a meeting of child i with child j: with k = j - i and q = s / k rounded down, child i + t between them moves by
--- t * q. It is 0 for child i and those before it, and what remains of s falls in the gap before child j.
+-- An amount s is shared over k gaps: q is s / k rounded down, and r = s - k * q is what remains.
+abbrev pub quotient : ℕ → ℕ → ℕ
+quotient k s = s / k
+
+abbrev pub remainder : ℕ → ℕ → ℕ
+remainder k s = s - k * quotient k s
+
+-- The child with t of the gaps on its left then moves by t * q, plus t - (k - r) where that is above 0.
+unfoldable pub evenly : ℕ → ℕ → ℕ → ℕ
+evenly k s t = t * quotient k s + (t - (k - remainder k s))
+
+-- The share of child p in a meeting of child i with child j, with k = j - i gaps between them: child i + t has t of them on its left. It is 0
+-- for child i and those before it.
 abbrev pub share : ℕ → Meeting → ℕ → ℕ
-share j m p = (p - m .child) * (m .amount / (j - m .child))
+share j m p = evenly (j - m .child) (m .amount) (p - m .child)
 
 abbrev pub shares : ℕ → List Meeting → ℕ → ℕ
 shares j [] p = 0

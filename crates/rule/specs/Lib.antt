@@ -4,5 +4,6 @@ pub mod Drawing
 pub mod Join
 pub mod Rule
 pub mod AtOnce
+pub mod Gaps
 pub mod Record
 pub mod Result

@@ -1,108 +1,187 @@
 -- One meeting of children i and c in the working slice: the shifts and changes are those of a meeting, and nothing else changes. Assumes nothing.
-use mathlib.Core.Path.{_≡_, sym, ap, _∙_, subst₂}
-use mathlib.Core.Logic.{⊎-elim}
+use mathlib.Core.Path.{_≡_, sym, ap, ap₂, _∙_, subst}
+use mathlib.Core.Logic.{_⊎_, inl, inr, ⊎-elim}
 use mathlib.Core.List.{List}
-use Prim.Native.Nat.{ℕ, _+_, _-_, _*_, _/_, _≤_, _<_}
-use native.Mathlib.Nat.{mul-div-le, div-le-self}
+use Prim.Native.Nat.{ℕ, _+_, _-_, _*_, _≤_, _<_}
 use native.Mathlib.Omega.{arith}
-use lib.IntN.{ℤ, pos, natAbs}
+use lib.IntN.{ℤ, pos, negℤ, natAbs, _+ℤ_, +ℤ-idr, -ℤ-+ℤ-cancel}
 use lib.ListN.{length, drop}
+use Rattle.tree.specs.Numbers.{is}
 use Rattle.tree.proofs.Counting.{is-cases}
-use Rattle.level_order.specs.Fields.{cell, get, put, SHIFT, CHANGE}
-use Rattle.shifts.specs.Shifts.{quotient, rightShift, rightChange, leftChange, shared}
+use Rattle.rule.specs.Join.{quotient, remainder}
+use Rattle.rule.proofs.Signed.{parts-add, parts-eq, natAbs-neg, natAbs-add}
+use Rattle.rule.proofs.Shares.{remainder-small}
+use Rattle.level_order.specs.Fields.{cell, get, SHIFT, CHANGE}
 use Rattle.level_order.proofs.Cells.{put-length, put-same, put-field, put-position, put-rest}
-use Rattle.contours.proofs.Gathered.{Met}
-use Rattle.rule.proofs.Signed.{natAbs-add, natAbs-sub}
+use Rattle.contours.proofs.Gathered.{entry, Met, shift-grown, change-grown}
+use Rattle.shifts.specs.Shifts.{added, shifted, lessened, raised, shared}
+
+-- ---- one addition
+
+module _ (work : List ℤ) (field q : ℕ) (z : ℤ) where
+  pub added-length : length (added work field q z) ≡ length work
+  unfolding added
+  added-length = put-length work field q (get work field q +ℤ z)
+
+  module _ (small : field < 16) where
+    -- another field, of the same position or of another
+    added-field : (k p : ℕ) → k < 16 → (k ≡ field → ⊥) → get (added work field q z) k p ≡ get work k p
+    unfolding added
+    added-field k p h d = put-field work field q (get work field q +ℤ z) small k p h d
+
+    -- any field of another position
+    added-position : (k p : ℕ) → k < 16 → (p ≡ q → ⊥) → get (added work field q z) k p ≡ get work k p
+    unfolding added
+    added-position k p h d = put-position work field q (get work field q +ℤ z) small k p h d
+
+    -- what is past the positions below n
+    added-rest : (n : ℕ) → q < n → drop (16 * n) (added work field q z) ≡ drop (16 * n) work
+    unfolding added
+    added-rest n h = put-rest work field q (get work field q +ℤ z) small n h
+
+    module _ (inside : cell q field < length work) where
+      -- the position that is added to, or another
+      added-cases : (p : ℕ)
+          → ((is p q ≡ 1) × (get (added work field q z) field p ≡ get work field p +ℤ z)) ⊎ ((is p q ≡ 0) × (get (added work field q z) field p ≡ get work field p))
+      unfolding added
+      added-cases p =
+          ⊎-elim (λ e. inl (e .1, subst (λ (r : ℕ). get (added work field q z) field r ≡ get work field r +ℤ z) (sym (e .0)) (put-same work field q (get work field q +ℤ z) inside)))
+          (λ d. inr (d .1, added-position field p small (d .0)))
+          (is-cases p q)
+
+      pub added-size : (p : ℕ) → natAbs (get (added work field q z) field p) ≤ natAbs (get work field p) + natAbs z
+      added-size p =
+          ⊎-elim (λ e. omega (arith, ap natAbs (e .1), natAbs-add (get work field p) z)) (λ e. omega (arith, ap natAbs (e .1))) (added-cases p)
+
+-- n more at one position, as an entry there
+added-more : (work : List ℤ) (field q n : ℕ) → field < 16 → cell q field < length work → (p : ℕ)
+    → get (added work field q (pos n)) field p ≡ get work field p +ℤ entry q n p
+added-more work field q n small inside p =
+    ⊎-elim (λ e. e .1 ∙ ap (λ (k : ℕ). get work field p +ℤ pos k) (omega (arith, ap (λ (k : ℕ). k * n) (e .0))))
+    (λ e. e .1 ∙ sym (+ℤ-idr (get work field p)) ∙ ap (λ (k : ℕ). get work field p +ℤ pos k) (omega (arith, ap (λ (k : ℕ). k * n) (e .0))))
+    (added-cases work field q (pos n) small inside p)
+
+-- n less
+added-less : (work : List ℤ) (field q n : ℕ) → field < 16 → cell q field < length work → (p : ℕ)
+    → get (added work field q (negℤ (pos n))) field p +ℤ entry q n p ≡ get work field p
+added-less work field q n small inside p =
+    ⊎-elim (λ e.
+    ap₂ (λ (x : ℤ) (k : ℕ). x +ℤ pos k) (e .1) (omega (arith, ap (λ (k : ℕ). k * n) (e .0))) ∙ -ℤ-+ℤ-cancel (get work field p) (pos n))
+    (λ e. ap₂ (λ (x : ℤ) (k : ℕ). x +ℤ pos k) (e .1) (omega (arith, ap (λ (k : ℕ). k * n) (e .0))) ∙ +ℤ-idr (get work field p))
+    (added-cases work field q (negℤ (pos n)) small inside p)
+
+last-first : (x a b d : ℤ) → ((x +ℤ a) +ℤ b) +ℤ d ≡ ((x +ℤ d) +ℤ a) +ℤ b
+last-first x a b d =
+    parts-eq (((x +ℤ a) +ℤ b) +ℤ d) (((x +ℤ d) +ℤ a) +ℤ b)
+    (omega (
+      arith,
+      parts-add x a,
+      parts-add (x +ℤ a) b,
+      parts-add ((x +ℤ a) +ℤ b) d,
+      parts-add x d,
+      parts-add (x +ℤ d) a,
+      parts-add ((x +ℤ d) +ℤ a) b,
+    ))
+
+-- ---- the four additions of a meeting
 
 module _ (work : List ℤ) (i c s : ℕ) where
-  -- the three stores
-  abbrev shifted : List ℤ
-  shifted = put work SHIFT c (rightShift work i c s)
+  abbrev q : ℕ
+  q = quotient (c - i) s
 
-  abbrev lessened : List ℤ
-  lessened = put shifted CHANGE c (rightChange work i c s)
+  abbrev r : ℕ
+  r = remainder (c - i) s
+
+  pub shifted-length : length (shifted work i c s) ≡ length work
+  shifted-length = added-length work SHIFT c _
+
+  pub lessened-length : length (lessened work i c s) ≡ length work
+  lessened-length = added-length (shifted work i c s) CHANGE c _ ∙ shifted-length
+
+  pub raised-length : length (raised work i c s) ≡ length work
+  raised-length = added-length (lessened work i c s) CHANGE _ _ ∙ lessened-length
 
   pub shared-length : length (shared work i c s) ≡ length work
-  shared-length =
-      put-length lessened CHANGE i (leftChange work i c s)
-      ∙ put-length shifted CHANGE c (rightChange work i c s)
-      ∙ put-length work SHIFT c (rightShift work i c s)
-
-  -- any field of another position
-  pub shared-position : (k p : ℕ) → k < 16 → (p ≡ i → ⊥) → (p ≡ c → ⊥) → get (shared work i c s) k p ≡ get work k p
-  shared-position k p h a b =
-      put-position lessened CHANGE i (leftChange work i c s) (omega arith) k p h a
-      ∙ put-position shifted CHANGE c (rightChange work i c s) (omega arith) k p h b
-      ∙ put-position work SHIFT c (rightShift work i c s) (omega arith) k p h b
+  shared-length = added-length (raised work i c s) CHANGE i _ ∙ raised-length
 
   -- any field before the change
-  from-shifted : (k p : ℕ) → k < CHANGE → get (shared work i c s) k p ≡ get shifted k p
+  from-shifted : (k p : ℕ) → k < CHANGE → get (shared work i c s) k p ≡ get (shifted work i c s) k p
   from-shifted k p h =
-      put-field lessened CHANGE i (leftChange work i c s) (omega arith) k p (omega arith) (λ e. omega arith)
-      ∙ put-field shifted CHANGE c (rightChange work i c s) (omega arith) k p (omega arith) (λ e. omega arith)
+      added-field (raised work i c s) CHANGE i _ (omega arith) k p (omega arith) (λ e. omega arith)
+      ∙ added-field (lessened work i c s) CHANGE _ _ (omega arith) k p (omega arith) (λ e. omega arith)
+      ∙ added-field (shifted work i c s) CHANGE c _ (omega arith) k p (omega arith) (λ e. omega arith)
+
+  -- any field but the shift, before the others are written
+  shifted-field : (k p : ℕ) → k < 16 → (k ≡ SHIFT → ⊥) → get (shifted work i c s) k p ≡ get work k p
+  shifted-field k p h d = added-field work SHIFT c _ (omega arith) k p h d
+
+  module _ (order : i < c) (inside : cell c CHANGE < length work) where
+    pub shared-met : Met (get work SHIFT) (get work CHANGE) (get (shared work i c s) SHIFT) (get (shared work i c s) CHANGE) i c s
+    shared-met = record { shifts = λ w. from-shifted SHIFT w (omega arith) ∙ added-more work SHIFT c s (omega arith) (omega arith) w; changes = changes }
+      where
+        changes : (w : ℕ) → get (shared work i c s) CHANGE w +ℤ entry c (q + 1) w ≡ (get work CHANGE w +ℤ entry (c - r) 1 w) +ℤ entry i q w
+        changes w =
+            ap (λ (x : ℤ). x +ℤ entry c (q + 1) w)
+            (added-more (raised work i c s) CHANGE i q (omega arith) (omega (arith, raised-length)) w
+            ∙ ap (λ (x : ℤ). x +ℤ entry i q w)
+            (added-more (lessened work i c s) CHANGE (c - r) 1 (omega arith) (omega (arith, lessened-length)) w))
+            ∙ last-first (get (lessened work i c s) CHANGE w) (entry (c - r) 1 w) (entry i q w) (entry c (q + 1) w)
+            ∙ ap (λ (x : ℤ). (x +ℤ entry (c - r) 1 w) +ℤ entry i q w)
+            (added-less (shifted work i c s) CHANGE c (q + 1) (omega arith) (omega (arith, shifted-length)) w
+            ∙ shifted-field CHANGE w (omega arith) (λ e. omega arith))
+
+    -- ---- how far the numbers can grow
+
+    -- no shift and no change is more than s larger
+    pub shared-grown : (k p : ℕ) → SHIFT ≤ k → k ≤ CHANGE → natAbs (get (shared work i c s) k p) ≤ natAbs (get work k p) + s
+    shared-grown k p l h =
+        ⊎-elim (λ e. rw (e .0) (shift-grown shared-met order p)) (λ d. let last : k ≡ CHANGE = at-last (d .0) in rw last (change-grown shared-met order p)) (is-cases k SHIFT)
+      where
+        at-last : (k ≡ SHIFT → ⊥) → k ≡ CHANGE
+        at-last d = omega arith
+
+    -- and no change much larger on the way
+    pub shifted-size : (p : ℕ) → natAbs (get (shifted work i c s) CHANGE p) ≤ natAbs (get work CHANGE p)
+    shifted-size p = omega (arith, ap natAbs (shifted-field CHANGE p (omega arith) (λ e. omega arith)))
+
+    pub lessened-size : (p : ℕ) → natAbs (get (lessened work i c s) CHANGE p) ≤ natAbs (get work CHANGE p) + (q + 1)
+    lessened-size p =
+        omega (
+          arith,
+          added-size (shifted work i c s) CHANGE c (negℤ (pos (q + 1))) (omega arith) (omega (arith, shifted-length)) p,
+          natAbs-neg (pos (q + 1)),
+          shifted-size p,
+        )
+
+    pub raised-size : (p : ℕ) → natAbs (get (raised work i c s) CHANGE p) ≤ natAbs (get work CHANGE p) + (q + 2)
+    raised-size p =
+        omega (arith, added-size (lessened work i c s) CHANGE (c - r) (pos 1) (omega arith) (omega (arith, lessened-length)) p, lessened-size p)
+
+  -- ---- what stays
 
   -- any field before the shift
   pub shared-field : (k p : ℕ) → k < SHIFT → get (shared work i c s) k p ≡ get work k p
-  shared-field k p h =
-      from-shifted k p (omega arith) ∙ put-field work SHIFT c (rightShift work i c s) (omega arith) k p (omega arith) (λ e. omega arith)
+  shared-field k p h = from-shifted k p (omega arith) ∙ shifted-field k p (omega arith) (λ e. omega arith)
 
   module _ (order : i < c) where
+    pub behind : i < c - r
+    behind = let some : 0 < c - i = omega arith in omega (arith, remainder-small (c - i) s some)
+
+    -- any field of a position outside
+    pub shared-position : (k p : ℕ) → k < 16 → (p < i) ⊎ (c < p) → get (shared work i c s) k p ≡ get work k p
+    shared-position k p h o =
+        added-position (raised work i c s) CHANGE i _ (omega arith) k p h (off i (omega arith) (omega arith))
+        ∙ added-position (lessened work i c s) CHANGE (c - r) _ (omega arith) k p h (off (c - r) (omega (arith, behind)) (omega arith))
+        ∙ added-position (shifted work i c s) CHANGE c _ (omega arith) k p h (off c (omega arith) (omega arith))
+        ∙ added-position work SHIFT c _ (omega arith) k p h (off c (omega arith) (omega arith))
+      where
+        off : (x : ℕ) → i ≤ x → x ≤ c → p ≡ x → ⊥
+        off x l g e = ⊎-elim (λ b. omega arith) (λ a. omega arith) o
+
     -- what is past the positions below n
     pub shared-rest : (n : ℕ) → c < n → drop (16 * n) (shared work i c s) ≡ drop (16 * n) work
     shared-rest n h =
-        put-rest lessened CHANGE i (leftChange work i c s) (omega arith) n (omega arith)
-        ∙ put-rest shifted CHANGE c (rightChange work i c s) (omega arith) n h
-        ∙ put-rest work SHIFT c (rightShift work i c s) (omega arith) n h
-
-    module _ (inside : cell c CHANGE < length work) where
-      pub shared-met : Met (get work SHIFT) (get work CHANGE) (get (shared work i c s) SHIFT) (get (shared work i c s) CHANGE) i c (s / (c - i))
-      shared-met =
-          record {
-            right-shift =
-                from-shifted SHIFT c (omega arith)
-                ∙ put-same work SHIFT c (rightShift work i c s) (omega arith);
-            other-shift = λ p d.
-                from-shifted SHIFT p (omega arith)
-                ∙ put-position work SHIFT c (rightShift work i c s) (omega arith) SHIFT p (omega arith) d;
-            right-change =
-                put-position lessened CHANGE i (leftChange work i c s) (omega arith) CHANGE c (omega arith) (λ e. omega arith)
-                ∙ put-same shifted CHANGE c (rightChange work i c s)
-                (omega (arith, put-length work SHIFT c (rightShift work i c s)));
-            left-change =
-                put-same lessened CHANGE i (leftChange work i c s)
-                (omega (
-                  arith,
-                  put-length work SHIFT c (rightShift work i c s),
-                  put-length shifted CHANGE c (rightChange work i c s),
-                ));
-            other-change = λ p d e. shared-position CHANGE p (omega arith) e d;
-          }
-
-      -- ---- how far the numbers can grow
-
-      -- no field of a position is more than s larger
-      abbrev Grown : List ℤ → Type 0
-      Grown l = (k p : ℕ) → k < 16 → natAbs (get l k p) ≤ natAbs (get work k p) + s
-
-      put-grown : (l : List ℤ) (field q : ℕ) (z : ℤ) → field < 16 → cell q field < length l → natAbs z ≤ natAbs (get work field q) + s → Grown l
-          → Grown (put l field q z)
-      put-grown l field q z small within b G k p h =
-          ⊎-elim (λ e.
-          ⊎-elim (λ d.
-          subst₂ (λ (x y : ℕ). natAbs (get (put l field q z) x y) ≤ natAbs (get work x y) + s) (sym (d .0)) (sym (e .0))
-          (omega (arith, ap natAbs (put-same l field q z within), b)))
-          (λ d. omega (arith, ap natAbs (put-field l field q z small k p h (d .0)), G k p h))
-          (is-cases k field))
-          (λ e. omega (arith, ap natAbs (put-position l field q z small k p h (e .0)), G k p h))
-          (is-cases p q)
-
-      pub shared-grown : Grown (shared work i c s)
-      shared-grown =
-          let q = quotient i c s in
-          let few : q ≤ s = div-le-self s (c - i) in
-          let longer = put-length work SHIFT c (rightShift work i c s) in
-          put-grown lessened CHANGE i (leftChange work i c s) (omega arith) (omega (arith, longer, put-length shifted CHANGE c (rightChange work i c s)))
-          (omega (arith, natAbs-add (get work CHANGE i) (pos q)))
-          (put-grown shifted CHANGE c (rightChange work i c s) (omega arith) (omega (arith, longer)) (omega (arith, natAbs-sub (get work CHANGE c) (pos q)))
-          (put-grown work SHIFT c (rightShift work i c s) (omega arith) (omega arith)
-          (omega (arith, natAbs-add (get work SHIFT c) (pos ((c - i) * q)), mul-div-le s (c - i))) (λ k p h. omega arith)))
+        added-rest (raised work i c s) CHANGE i _ (omega arith) n (omega arith)
+        ∙ added-rest (lessened work i c s) CHANGE (c - r) _ (omega arith) n (omega arith)
+        ∙ added-rest (shifted work i c s) CHANGE c _ (omega arith) n h
+        ∙ added-rest work SHIFT c _ (omega arith) n h

@@ -1,32 +1,32 @@
 -- What one meeting leaves in the working slice, and what the pass that carries the gathered moves out does.
-use Prim.Native.Nat.{ℕ, _-_, _*_, _/_, _≤_, _<_}
+use Prim.Native.Nat.{ℕ, _+_, _-_, _*_, _/_, _≤_, _<_}
 use mathlib.Core.Path.{_≡_}
 use mathlib.Core.List.{List}
-use lib.IntN.{ℤ, pos, natAbs, _+ℤ_, _-ℤ_}
+use lib.IntN.{ℤ, pos, natAbs, negℤ, _+ℤ_, _-ℤ_}
 use lib.ListN.{length, drop}
-use Rattle.rule.specs.Join.{above0}
+use Rattle.rule.specs.Join.{above0, quotient, remainder}
 use Rattle.level_order.specs.Fields.{get, put, PLACE, SHIFT, CHANGE}
 use Rattle.contours.specs.Gather.{pending}
 
 -- ---- one meeting
 
--- s shared evenly over the gaps between children i and c, rounded down
-abbrev pub quotient : ℕ → ℕ → ℕ → ℕ
-quotient i c s = s / (c - i)
+-- z is added to a field of position p
+unfoldable pub added : List ℤ → ℕ → ℕ → ℤ → List ℤ
+added work field p z = put work field p (get work field p +ℤ z)
 
-abbrev pub rightShift : List ℤ → ℕ → ℕ → ℕ → ℤ
-rightShift work i c s = get work SHIFT c +ℤ pos ((c - i) * quotient i c s)
+-- Children i and c have met, and s is to be shared over the gaps between them, with q and r as in the rule. The shift at c takes s; of the
+-- changes, that at c takes -(q + 1), that at r children before c takes 1, and that at i takes q.
+abbrev pub shifted : List ℤ → ℕ → ℕ → ℕ → List ℤ
+shifted work i c s = added work SHIFT c (pos s)
 
-abbrev pub rightChange : List ℤ → ℕ → ℕ → ℕ → ℤ
-rightChange work i c s = get work CHANGE c -ℤ pos (quotient i c s)
+abbrev pub lessened : List ℤ → ℕ → ℕ → ℕ → List ℤ
+lessened work i c s = added (shifted work i c s) CHANGE c (negℤ (pos (quotient (c - i) s + 1)))
 
-abbrev pub leftChange : List ℤ → ℕ → ℕ → ℕ → ℤ
-leftChange work i c s = get work CHANGE i +ℤ pos (quotient i c s)
+abbrev pub raised : List ℤ → ℕ → ℕ → ℕ → List ℤ
+raised work i c s = added (lessened work i c s) CHANGE (c - remainder (c - i) s) (pos 1)
 
--- children i and c have met, and s is to be shared
 abbrev pub shared : List ℤ → ℕ → ℕ → ℕ → List ℤ
-shared work i c s =
-    put (put (put work SHIFT c (rightShift work i c s)) CHANGE c (rightChange work i c s)) CHANGE i (leftChange work i c s)
+shared work i c s = added (raised work i c s) CHANGE i (pos (quotient (c - i) s))
 
 -- ---- the gathered moves
 

@@ -2,35 +2,44 @@
 // from right to left, carries all of it out.
 ghost use mathlib.Core.Path.{_≡_};
 ghost use mathlib.Core.Bool.{true};
-ghost use Prim.Native.Nat.{_-_, _*_, _≤_, _<_};
+ghost use Prim.Native.Nat.{ℕ, _-_, _*_, _≤_, _<_};
 ghost use lib.IntN.{natAbs};
 ghost use lib.ListN.{length};
 ghost use lib.Signed.{nonNeg};
 ghost use Rattle.level_order.specs.Fields;
 ghost use Rattle.level_order.specs.Fields.{cell};
-ghost use Rattle.shifts.specs.Shifts.{shared, Bounded, Executed};
+ghost use Rattle.shifts.specs.Shifts.{added, shared, Bounded, Executed};
 use level_order::field::CHANGE;
 use level_order::field::PLACE;
 use level_order::field::SHIFT;
 use level_order::field::get;
 use level_order::field::put;
 
-// Shares s over the gaps between the children i and c.
+// Adds to a field of position p.
+fn add(work: &mut [i32], p: usize, field: usize, amount: i32)
+    requires { ⌜ cell p field < length (now work) ⌝ }
+    requires { ⌜ (natAbs (Fields.get (now work) field p) ≤ 16777216) × (natAbs amount ≤ 16777216) ⌝ }
+    ensures { λ _. ⌜ now (work .exit) ≡ added (now (work .entry)) field p amount ⌝ }
+{
+    let before = get(work, p, field);
+    put(work, p, field, before + amount);
+}
+
+// Shares s over the gaps between the children i and c: q for each, and one more for the r rightmost. Where r is 0, the two changes at c make -q.
 pub fn share(work: &mut [i32], i: usize, c: usize, s: usize)
     requires { ⌜ (i < c) × (c < 1024) × (s ≤ 4194304) ⌝ }
     requires { ⌜ cell c Fields.CHANGE < length (now work) ⌝ }
     requires { ⌜ natAbs (Fields.get (now work) Fields.SHIFT c) ≤ 4194304 ⌝ }
-    requires { ⌜ natAbs (Fields.get (now work) Fields.CHANGE c) ≤ 4194304 ⌝ }
-    requires { ⌜ natAbs (Fields.get (now work) Fields.CHANGE i) ≤ 4194304 ⌝ }
+    requires { ⌜ ((p : ℕ) → i ≤ p → p ≤ c → natAbs (Fields.get (now work) Fields.CHANGE p) ≤ 4194304) ⌝ }
     ensures { λ _. ⌜ now (work .exit) ≡ shared (now (work .entry)) i c s ⌝ }
 {
-    let q = s / (c - i);
-    let shift = get(work, c, SHIFT);
-    let right = get(work, c, CHANGE);
-    let left = get(work, i, CHANGE);
-    put(work, c, SHIFT, shift + ((c - i) * q) as i32);
-    put(work, c, CHANGE, right - q as i32);
-    put(work, i, CHANGE, left + q as i32);
+    let gaps = c - i;
+    let q = s / gaps;
+    let r = s - gaps * q;
+    add(work, c, SHIFT, s as i32);
+    add(work, c, CHANGE, -((q + 1) as i32));
+    add(work, c - r, CHANGE, 1);
+    add(work, i, CHANGE, q as i32);
 }
 
 // Moves the children at the positions from f to end by what is pending, and counts their places from the middle of the row.

@@ -1,153 +1,197 @@
 -- `shifts::share` meets its contract. Assumes nothing.
-use mathlib.Core.Path.{ap, ap₂, _∙_}
+use mathlib.Core.Path.{_≡_, sym, ap, ap₂, _∙_, subst}
 use mathlib.Core.List.{List}
-use Prim.Native.Nat.{ℕ, _-_, _*_, _/_, _≤_}
-use native.Mathlib.Nat.{mul-div-le, div-le-self}
+use Prim.Native.Nat.{ℕ, _+_, _-_, _≤_, _<_}
+use native.Mathlib.Nat.{mul-div-le, div-le-self, le-refl, le-trans, le-of-lt, sub-le}
 use native.Mathlib.Omega.{arith}
 use borrow.Author.Needs.{needs}
-use lib.IntN.{ℤ, pos, _+ℤ_, _-ℤ_}
+use lib.IntN.{ℤ, pos, negℤ, natAbs, _-ℤ_, +ℤ-idl}
+use lib.ListN.{length}
 use mir.Syntax.{w32}
 use mir.Val.{toZ}
-use Rattle.level_order.specs.Fields.{get, put, SHIFT, CHANGE}
-use Rattle.level_order.proofs.Signed32.{stored, Held, told, plus, minus, signed}
-use Rattle.rule.proofs.Signed.{natAbs-add, natAbs-sub}
+use Rattle.rule.specs.Join.{quotient, remainder}
+use Rattle.rule.proofs.Signed.{natAbs-neg}
+use Rattle.rule.proofs.Shares.{remainder-small}
+use Rattle.level_order.specs.Fields.{cell, get, SHIFT, CHANGE}
+use Rattle.level_order.proofs.Signed32.{Held, held, signed}
+use Rattle.shifts.specs.Shifts.{added, shifted, lessened, raised}
+use Rattle.shifts.proofs.Shared.{shifted-length, lessened-length, raised-length, shifted-size, lessened-size, raised-size, behind}
 use Rattle.shifts.proofs.share.Statement.{statement}
 use Rattle.shifts.proofs.share.Tie as tie
 
-sub-q : tie.Need-sub-q
-sub-q c = search needs
+sub-gaps : tie.Need-sub-gaps
+sub-gaps c = search needs
 
 div-q : tie.Need-div-q
 div-q c = search needs
 
-get-requires : tie.Need-get-requires
-get-requires c κs = search needs
-
-get-requires-2 : tie.Need-get-requires-2
-get-requires-2 c κs = search needs
-
-get-requires-3 : tie.Need-get-requires-3
-get-requires-3 c κs = search needs
-
-sub-put : tie.Need-sub-put
-sub-put c = search needs
-
--- the three fields are read
-module _ (g : tie.After-get3) where
-  abbrev start : tie.Start
-  start = g .before .before .before .before .before .before
-
+-- at the function's start
+module _ (g : tie.Start) where
   abbrev work : List ℤ
-  work = start .args .work .now
+  work = g .args .work .now
 
   abbrev i : ℕ
-  i = start .args .i
+  i = g .args .i
 
   abbrev c : ℕ
-  c = start .args .c
+  c = g .args .c
 
-  abbrev quotient : ℕ
-  quotient = start .args .s / (c - i)
+  abbrev s : ℕ
+  s = g .args .s
 
-  abbrev whole : ℕ
-  whole = (c - i) * quotient
+  abbrev q : ℕ
+  q = quotient (c - i) s
 
-  whole-small : whole ≤ 4194304
-  whole-small = omega (arith, mul-div-le (start .args .s) (c - i), start .pre .0 .2)
+  abbrev r : ℕ
+  r = remainder (c - i) s
 
-  quotient-small : quotient ≤ 4194304
-  quotient-small = omega (arith, div-le-self (start .args .s) (c - i), start .pre .0 .2)
+  small : q ≤ 4194304
+  small = omega (arith, div-le-self s (c - i), g .pre .0)
 
-  -- the three that are written
-  new-shift : Held (stored (g .before .before .before .before .get .result) +ℤ toZ w32 whole) (get work SHIFT c +ℤ pos whole)
-  new-shift =
-      plus (told (g .before .before .before .before .get .ok) (g .before .before .before .before .get .ensures)) (signed whole (omega (arith, whole-small)))
-      (omega (arith, natAbs-add (get work SHIFT c) (pos whole), whole-small, start .pre .1 .1 .0))
+  inside : r < c - i
+  inside = let some : 0 < c - i = omega (arith, g .pre .0) in remainder-small (c - i) s some
 
-  new-right : Held (stored (g .before .before .get2 .result) -ℤ toZ w32 quotient) (get work CHANGE c -ℤ pos quotient)
-  new-right =
-      minus (told (g .before .before .get2 .ok) (g .before .before .get2 .ensures)) (signed quotient (omega (arith, quotient-small)))
-      (omega (arith, natAbs-sub (get work CHANGE c) (pos quotient), quotient-small, start .pre .1 .1 .1 .0))
+  -- the amounts that are added, as they are read
+  whole-read : toZ w32 s ≡ pos s
+  whole-read = signed s (omega (arith, g .pre .0))
 
-  new-left : Held (stored (g .get3 .result) +ℤ toZ w32 quotient) (get work CHANGE i +ℤ pos quotient)
-  new-left =
-      plus (told (g .get3 .ok) (g .get3 .ensures)) (signed quotient (omega (arith, quotient-small)))
-      (omega (arith, natAbs-add (get work CHANGE i) (pos quotient), quotient-small, start .pre .1 .1 .1 .1))
+  one-more : toZ w32 (q + 1) ≡ pos (q + 1)
+  one-more = signed (q + 1) (omega (arith, small))
 
-mul-put : tie.Need-mul-put
-mul-put c = omega (arith, whole-small (c .before))
+  less : Held (pos 0 -ℤ toZ w32 (q + 1)) (negℤ (pos (q + 1)))
+  less = held (ap (λ (z : ℤ). pos 0 -ℤ z) one-more ∙ +ℤ-idl (negℤ (pos (q + 1)))) (omega (arith, natAbs-neg (pos (q + 1)), small))
 
-cast-put : tie.Need-cast-put
-cast-put c = record { sfits = omega (arith, whole-small (c .before)) }
+  quotient-read : toZ w32 q ≡ pos q
+  quotient-read = signed q (omega (arith, small))
 
-add-put : tie.Need-add-put
-add-put c = new-shift (c .before) .fits
+  -- ---- what an addition to a change asks for
 
-put-requires : tie.Need-put-requires
-put-requires c κs = search needs
+  abbrev Ready : List ℤ → ℕ → Type 0
+  Ready l p = (cell p CHANGE < length l) × (natAbs (get l CHANGE p) ≤ 16777216)
 
--- past the first call of `put`
-abbrev read2 : tie.After-put-arg2 → tie.After-get3
-read2 c = c .before .before .before .before
+  order : i < c
+  order = g .pre .0 .0
 
-cast-put-2 : tie.Need-cast-put-2
-cast-put-2 c = record { sfits = omega (arith, quotient-small (read2 c)) }
+  room : cell c CHANGE < length work
+  room = g .pre .1 .0
 
-sub-put-2 : tie.Need-sub-put-2
-sub-put-2 c = new-right (read2 c) .fits
+  ready : (l : List ℤ) (p : ℕ) → length l ≡ length work → natAbs (get l CHANGE p) ≤ natAbs (get work CHANGE p) + (q + 2) → i ≤ p → p ≤ c → Ready l p
+  ready l p same size low high = (omega (arith, room), omega (arith, g .pre .1 .1 .1 p low high, small))
 
-put-requires-2 : tie.Need-put-requires-2
-put-requires-2 c κs = search needs
+  ready-shifted : Ready (shifted work i c s) c
+  ready-shifted = ready (shifted work i c s) c (shifted-length work i c s) (omega (arith, shifted-size work i c s order room c)) (le-of-lt order) (le-refl c)
 
--- past the second
-abbrev read3 : tie.After-put-arg3 → tie.After-get3
-read3 c = read2 (c .before .before .before)
+  ready-lessened : Ready (lessened work i c s) (c - r)
+  ready-lessened =
+      ready (lessened work i c s) (c - r) (lessened-length work i c s) (omega (arith, lessened-size work i c s order room (c - r)))
+      (le-of-lt (behind work i c s order)) (sub-le c r)
 
-cast-put-3 : tie.Need-cast-put-3
-cast-put-3 c = record { sfits = omega (arith, quotient-small (read3 c)) }
+  ready-raised : Ready (raised work i c s) i
+  ready-raised = ready (raised work i c s) i (raised-length work i c s) (raised-size work i c s order room i) (le-refl i) (le-of-lt order)
 
-add-put-2 : tie.Need-add-put-2
-add-put-2 c = new-left (read3 c) .fits
+mul-r : tie.Need-mul-r
+mul-r c = omega (arith, mul-div-le (c .args .s) (c .args .c - c .args .i), c .pre .0)
 
-put-requires-3 : tie.Need-put-requires-3
-put-requires-3 c κs = search needs
+sub-r : tie.Need-sub-r
+sub-r c = mul-div-le (c .args .s) (c .args .c - c .args .i)
+
+cast-add : tie.Need-cast-add
+cast-add c = record { sfits = omega (arith, small (c .before), c .before .pre .0) }
+
+add-requires : tie.Need-add-requires
+add-requires c κs =
+    let g = c .before in
+    (omega (arith, room g), (omega (arith, g .pre .1 .1 .0), omega (arith, ap natAbs (whole-read g), ap natAbs (quotient-read g), small g, g .pre .0)))
+
+-- ---- once the shift is added
+
+module _ (a : tie.After-add) where
+  abbrev start1 : tie.Start
+  start1 = a .before .before
+
+  now1 : a .add .last .0 ≡ shifted (work start1) (i start1) (c start1) (s start1)
+  now1 = a .add .ensures ∙ ap (added (work start1) SHIFT (c start1)) (whole-read start1)
+
+add-add : tie.Need-add-add
+add-add c = omega (arith, small (start1 (c .before .before)))
+
+cast-add-2 : tie.Need-cast-add-2
+cast-add-2 c = record { sfits = omega (arith, small (start1 (c .before .before))) }
+
+sub-add : tie.Need-sub-add
+sub-add c = less (start1 (c .before .before)) .fits
+
+add-requires-2 : tie.Need-add-requires-2
+add-requires-2 d κs =
+    let a = d .before .before in
+    let g = start1 a in
+    let x = subst (λ (l : List ℤ). Ready g l (c g)) (sym (now1 a)) (ready-shifted g) in
+    (x .0, (x .1, omega (arith, ap natAbs (less g .read), natAbs-neg (pos (q g + 1)), small g)))
+
+-- ---- once the change at c is lessened
+
+module _ (a : tie.After-add2) where
+  abbrev start2 : tie.Start
+  start2 = start1 (a .before .before .before)
+
+  now2 : a .add2 .last .0 ≡ lessened (work start2) (i start2) (c start2) (s start2)
+  now2 = a .add2 .ensures ∙ ap₂ (λ (l : List ℤ) (z : ℤ). added l CHANGE (c start2) z) (now1 (a .before .before .before)) (less start2 .read)
+
+sub-add-2 : tie.Need-sub-add-2
+sub-add-2 d = let g = start2 (d .before .before) in le-trans (le-of-lt (inside g)) (sub-le (c g) (i g))
+
+add-requires-3 : tie.Need-add-requires-3
+add-requires-3 d κs =
+    let a = d .before .before in
+    let g = start2 a in
+    let x = subst (λ (l : List ℤ). Ready g l (c g - r g)) (sym (now2 a)) (ready-lessened g) in
+    (x .0, (x .1, omega arith))
+
+-- ---- once the change at c - r is raised
+
+module _ (a : tie.After-add3) where
+  abbrev start3 : tie.Start
+  start3 = start2 (a .before .before .before)
+
+  now3 : a .add3 .last .0 ≡ raised (work start3) (i start3) (c start3) (s start3)
+  now3 = a .add3 .ensures ∙ ap (λ (l : List ℤ). added l CHANGE (c start3 - r start3) (pos 1)) (now2 (a .before .before .before))
+
+cast-add-3 : tie.Need-cast-add-3
+cast-add-3 d = let g = start3 (d .before .before) in record { sfits = omega (arith, small g, g .pre .0) }
+
+add-requires-4 : tie.Need-add-requires-4
+add-requires-4 d κs =
+    let a = d .before .before in
+    let g = start3 a in
+    let x = subst (λ (l : List ℤ). Ready g l (i g)) (sym (now3 a)) (ready-raised g) in
+    (x .0, (x .1, omega (arith, ap natAbs (whole-read g), ap natAbs (quotient-read g), small g, g .pre .0)))
 
 same-length : tie.Need-same-length
 same-length c = search needs
 
 returns : tie.Need-returns
 returns e =
-    let third = e .before .before in
-    let second = third .before .before .before in
-    let first = second .before .before .before in
-    let g = first .before in
-    e .before .put3 .ensures
-    ∙ ap₂ (λ (l : List ℤ) (z : ℤ). put l CHANGE (i g) z)
-    (third .before .before .put2 .ensures
-    ∙ ap₂ (λ (l : List ℤ) (z : ℤ). put l CHANGE (start g .args .c) z)
-    (second .before .before .put .ensures ∙ ap (put (work g) SHIFT (start g .args .c)) (new-shift g .read))
-    (new-right g .read))
-    (new-left g .read)
+    let a = e .before .before .before .before in
+    let g = start3 a in
+    e .before .add4 .ensures ∙ ap₂ (λ (l : List ℤ) (z : ℤ). added l CHANGE (i g) z) (now3 a) (quotient-read g)
 
 pub share-spec : {M : Type 1} → statement M
 share-spec =
     tie.close
     (tie.spec
-    sub-q
+    sub-gaps
     div-q
-    get-requires
-    get-requires-2
-    get-requires-3
-    sub-put
-    mul-put
-    cast-put
-    add-put
-    put-requires
-    cast-put-2
-    sub-put-2
-    put-requires-2
-    cast-put-3
-    add-put-2
-    put-requires-3
+    mul-r
+    sub-r
+    cast-add
+    add-requires
+    add-add
+    cast-add-2
+    sub-add
+    add-requires-2
+    sub-add-2
+    add-requires-3
+    cast-add-3
+    add-requires-4
     same-length
     returns)

@@ -163,7 +163,7 @@ share-requires c κs =
     let high : i < child s = omega (arith, c .before .owner .ensures, range .1) in
     let own = l .gathered (child s) (omega (arith, l .low, l .high)) (omega arith) in (
       (high, l .few .1, omega (arith, amount-read q, s .pre .1 .1)),
-      (omega (arith, l .inside .1), (own .0, (own .1, l .gathered i low (omega (arith, high)) .1))),
+      (omega (arith, l .inside .1), (own .0, λ p h g. l .gathered p (omega (arith, low, h)) g .1)),
     )
 
 sub-put-2 : tie.Need-sub-put-2
