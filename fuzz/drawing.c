@@ -20,7 +20,7 @@ void number_parents_first(const uint16_t *table, uint16_t *order)
     }
 }
 
-static size_t conflicts, widest;
+static size_t conflicts, widest, remainder;
 
 /* By position. */
 static uint16_t node_at[MOST_NODES];
@@ -57,13 +57,14 @@ static void join(size_t j, int32_t separation, const size_t *right_contour, size
             while (end[family[i]] <= left) {
                 i++;
             }
-            size_t k = j - i;
-            int32_t q = s / (int32_t)k;
+            int32_t k = (int32_t)(j - i), q = s / k, r = s - k * q;
             conflicts++;
-            widest = k > widest ? k : widest;
+            widest = j - i > widest ? j - i : widest;
+            remainder = (size_t)r > remainder ? (size_t)r : remainder;
             move_right(root, s);
-            for (size_t t = 1; t < k; t++) {
-                move_right(family[i + t], (int32_t)t * q);
+            for (int32_t t = 1; t < k; t++) {
+                int32_t odd_units = t > k - r ? t - (k - r) : 0;
+                move_right(family[i + (size_t)t], t * q + odd_units);
             }
         }
     }
@@ -98,7 +99,7 @@ void draw(const uint16_t *table, size_t nodes, int32_t separation, struct drawin
 {
     size_t at[MOST_NODES];
     uint16_t right_of[MOST_NODES]; /* by node: the right neighbour, or NONE */
-    conflicts = widest = 0;
+    conflicts = widest = remainder = 0;
     walk_levels(table, nodes, &drawing->levels);
     memset(right_of, 0xff, sizeof right_of);
     for (size_t i = 0; i < 2 * drawing->levels.pairs; i += 2) {
@@ -121,6 +122,7 @@ void draw(const uint16_t *table, size_t nodes, int32_t separation, struct drawin
     }
     drawing->conflicts = conflicts;
     drawing->widest = widest;
+    drawing->remainder = remainder;
     /* Step 6. */
     move_right(0, -place[0]);
     drawing->least = drawing->greatest = 0;

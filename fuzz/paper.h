@@ -22,8 +22,8 @@ void number_parents_first(const uint16_t *table, uint16_t *order);
 struct drawing {
     struct levels levels;
     int32_t least, greatest;
-    int32_t place[MOST_NODES]; /* by node number */
-    size_t conflicts, widest;  /* how many, and the greatest k of one */
+    int32_t place[MOST_NODES];           /* by node number */
+    size_t conflicts, widest, remainder; /* how many, and the greatest k and r of one */
 };
 
 /* Where each node of a well-formed table stands: steps 1 to 6. */

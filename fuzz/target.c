@@ -42,7 +42,7 @@ struct input {
 
 /* How large a drawing is and what conflicts it has, for the fuzzer to keep what is new in either, as
    small trees take every branch already. */
-__attribute__((section("__libfuzzer_extra_counters"))) static uint8_t drawn[2][12][12];
+__attribute__((section("__libfuzzer_extra_counters"))) static uint8_t drawn[3][12][12];
 
 /* The count of binary digits. */
 static size_t digits(size_t number)
@@ -242,6 +242,7 @@ static void layout(const struct input *input, const uint16_t *entries, size_t le
         draw(entries, n, input->separation, &drawing);
         drawn[0][digits(n)][digits(drawing.levels.count)] = 1;
         drawn[1][digits(drawing.conflicts)][digits(drawing.widest)] = 1;
+        drawn[2][digits(drawing.widest)][digits(drawing.remainder)] = 1;
         expect_promises(entries, places.start, n, input->separation, &drawing.levels);
     }
     expect(memcmp(places.start, drawing.place, 4 * n) == 0, "the places are those of the rule");

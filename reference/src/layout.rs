@@ -8,15 +8,52 @@ use crate::table::{children_of, over_start, parents_first, refusal, Children};
 /// The drawing of a subtree; its root alone is on the first level.
 type Drawing = Vec<Vec<(usize, i64)>>;
 
-/// A finished drawing with the root at 0, and the pairs that the walk measured, left node first.
+/// A conflict of step 4, by the paper's names: child j, the new one, comes too close to child i.
+#[derive(Clone, Copy, Debug, PartialEq, Eq)]
+pub struct Conflict {
+    /// The node whose children they are.
+    pub parent: usize,
+    pub i: usize,
+    pub j: usize,
+    pub s: i64,
+    /// Whether child i alone of those already joined has the level on which they meet.
+    pub alone: bool,
+}
+
+impl Conflict {
+    /// The count of gaps from child i to child j.
+    pub fn k(&self) -> i64 {
+        (self.j - self.i) as i64
+    }
+
+    /// By how much each gap grows at least.
+    pub fn q(&self) -> i64 {
+        self.s / self.k()
+    }
+
+    /// How many gaps, the rightmost, grow by one unit more.
+    pub fn r(&self) -> i64 {
+        self.s - self.k() * self.q()
+    }
+}
+
+/// What the walks of step 3 met.
+#[derive(Default)]
+struct Walked {
+    /// The pairs that were measured, left node first.
+    measured: Vec<(usize, usize)>,
+    conflicts: Vec<Conflict>,
+}
+
+/// A finished drawing with the root at 0, and what the walks met.
 struct Drawn {
     levels: Drawing,
-    measured: Vec<(usize, usize)>,
+    walked: Walked,
 }
 
 /// Steps 1 to 6 for the tree with these children.
 fn draw(children: &Children, separation: i64) -> Drawn {
-    let mut measured = Vec::new();
+    let mut walked = Walked::default();
     let mut drawings: Vec<Option<Drawing>> = vec![None; children.len()];
     // Step 1: each subtree on its own, so children before their parents.
     for node in parents_first(children).into_iter().rev() {
@@ -24,11 +61,11 @@ fn draw(children: &Children, separation: i64) -> Drawn {
             .iter()
             .map(|&child| drawings[child].take().expect("drawn before its parent"))
             .collect();
-        drawings[node] = Some(draw_family(node, subtrees, separation, &mut measured));
+        drawings[node] = Some(draw_family(node, subtrees, separation, &mut walked));
     }
     Drawn {
         levels: drawings[0].take().expect("the root is drawn last"),
-        measured,
+        walked,
     }
 }
 
@@ -38,14 +75,14 @@ fn draw_family(
     node: usize,
     subtrees: Vec<Drawing>,
     separation: i64,
-    measured: &mut Vec<(usize, usize)>,
+    walked: &mut Walked,
 ) -> Drawing {
     if subtrees.is_empty() {
         return vec![vec![(node, 0)]];
     }
     let mut joined: Vec<Drawing> = Vec::new();
     for subtree in subtrees {
-        join(&mut joined, subtree, separation, measured);
+        join(node, &mut joined, subtree, separation, walked);
     }
     // Step 5.
     let (first, last) = (
@@ -65,10 +102,11 @@ fn draw_family(
 
 /// Steps 2 to 4 for child j, the number of children already joined.
 fn join(
+    parent: usize,
     joined: &mut Vec<Drawing>,
     mut subtree: Drawing,
     separation: i64,
-    measured: &mut Vec<(usize, usize)>,
+    walked: &mut Walked,
 ) {
     let j = joined.len();
     if j > 0 {
@@ -76,7 +114,8 @@ fn join(
     }
     for level in 0.. {
         // The right contour's node belongs to the last child that has the level.
-        let Some(i) = joined.iter().rposition(|child| level < child.len()) else {
+        let has_level = |child: &Drawing| level < child.len();
+        let Some(i) = joined.iter().rposition(has_level) else {
             break;
         };
         if level >= subtree.len() {
@@ -84,18 +123,31 @@ fn join(
         }
         let (left, left_place) = joined[i][level][joined[i][level].len() - 1];
         let (right, right_place) = subtree[level][0];
-        measured.push((left, right));
+        walked.measured.push((left, right));
         let s = separation - (right_place - left_place);
         if s > 0 {
-            let k = j - i;
-            let q = s / k as i64;
-            move_right(&mut subtree, s);
-            for t in 1..k {
-                move_right(&mut joined[i + t], t as i64 * q);
-            }
+            let conflict = Conflict {
+                parent,
+                i,
+                j,
+                s,
+                alone: !joined[..i].iter().any(has_level),
+            };
+            move_apart(joined, &mut subtree, &conflict);
+            walked.conflicts.push(conflict);
         }
     }
     joined.push(subtree);
+}
+
+/// Step 4 at a conflict: child j moves right by s, and each child i + t between them by its share.
+fn move_apart(joined: &mut [Drawing], subtree: &mut Drawing, conflict: &Conflict) {
+    let (k, q, r) = (conflict.k(), conflict.q(), conflict.r());
+    move_right(subtree, conflict.s);
+    for t in 1..k {
+        let odd_units = (t - (k - r)).max(0);
+        move_right(&mut joined[conflict.i + t as usize], t * q + odd_units);
+    }
 }
 
 fn root_place(drawing: &Drawing) -> i64 {
@@ -137,6 +189,12 @@ fn in_reading_order(levels: &Drawing) -> Vec<(usize, usize)> {
         .iter()
         .flat_map(|row| row.windows(2).map(|pair| (pair[0].0, pair[1].0)))
         .collect()
+}
+
+/// The conflicts of a well-formed table with this separation, in the order in which they are met.
+pub fn conflicts(table: &[u16], separation: u16) -> Vec<Conflict> {
+    let drawn = draw(&children_of(table), i64::from(separation));
+    drawn.walked.conflicts
 }
 
 /// The whole operation.
@@ -193,7 +251,7 @@ fn accepted(table: &[u16], separation: u16, lent: &Slices) -> LaidOut {
         .iter()
         .flat_map(|&(left, right)| [left as u16, right as u16])
         .collect();
-    let (mut measured, mut recorded) = (drawn.measured, pairs);
+    let (mut measured, mut recorded) = (drawn.walked.measured, pairs);
     measured.sort_unstable();
     recorded.sort_unstable();
     assert_eq!(measured, recorded, "the record names what step 3 measures");
@@ -296,6 +354,8 @@ mod tests {
 
     #[test]
     fn p6_two_go_betweens() {
+        // E starts at 12, its first leaf at 4; A's last stands at 8: s = 8, k = 3, so q = 2 and
+        // r = 2. b moves by 2, c by 4 and 1 more, E by 8: A, b, c, E stand at 0, 6, 13, 20.
         expect(
             4,
             &[
@@ -307,7 +367,7 @@ mod tests {
                 (2, -6),
                 (2, -2),
                 (1, -4),
-                (1, 2),
+                (1, 3),
                 (1, 10),
                 (2, 2),
                 (2, 6),
@@ -367,6 +427,28 @@ mod tests {
                 (3, 10),
                 (2, 8),
             ],
+        );
+    }
+
+    #[test]
+    fn the_conflicts_of_p7() {
+        let list = [
+            0, 1, 2, 3, 3, 3, 3, 3, 3, 3, 1, 2, 2, 2, 1, 2, 2, 3, 3, 3, 3, 3, 2,
+        ];
+        let conflict = |i, j, s, alone| Conflict {
+            parent: 0,
+            i,
+            j,
+            s,
+            alone,
+        };
+        assert_eq!(
+            conflicts(&shapes::table_of_levels(&list), 2),
+            [
+                conflict(0, 1, 2, true),
+                conflict(1, 2, 4, false),
+                conflict(0, 2, 2, true),
+            ]
         );
     }
 
@@ -482,6 +564,113 @@ mod tests {
     }
 
     #[test]
+    fn odd_units_alone() {
+        // D = 3, children A, b, c, d, E; A and E have five leaves each. E starts at 12 and its
+        // first leaf stands at 6, as does A's last: s = 3, k = 4, so q = 0 and r = 3. b stays, c
+        // and d move by 1 and 2, E by 3. The five stand at 0, 3, 7, 11, 15, the root at 7.
+        expect(
+            3,
+            &[
+                (0, 0),
+                (1, -7),
+                (2, -13),
+                (2, -10),
+                (2, -7),
+                (2, -4),
+                (2, -1),
+                (1, -4),
+                (1, 0),
+                (1, 4),
+                (1, 8),
+                (2, 2),
+                (2, 5),
+                (2, 8),
+                (2, 11),
+                (2, 14),
+            ],
+        );
+    }
+
+    #[test]
+    fn odd_units_beside_an_elder_child() {
+        // D = 5, children z, A, b, c, E with 0, 3, 0, 0 and 5 leaves. They start at 0, 5, 10, 15,
+        // 20. E's first leaf stands at 10, as does A's last: s = 5, k = 3, so q = 1 and r = 2. b
+        // moves by 1, c by 2 and 1 more, E by 5. The five stand at 0, 5, 11, 18, 25, the root at
+        // 12.
+        expect(
+            5,
+            &[
+                (0, 0),
+                (1, -12),
+                (1, -7),
+                (2, -12),
+                (2, -7),
+                (2, -2),
+                (1, -1),
+                (1, 6),
+                (1, 13),
+                (2, 3),
+                (2, 8),
+                (2, 13),
+                (2, 18),
+                (2, 23),
+            ],
+        );
+    }
+
+    #[test]
+    fn one_child_with_odd_units_of_two_conflicts() {
+        // D = 2, children A (one child with fifteen leaves), b, C (three leaves), d, e, and F
+        // (five children, five leaves under the middle one). A to e stand at 0, 2, 4, 6, 8 without
+        // a conflict. F starts at 10. One level down C's last leaf stands at 6 and so does F's
+        // first child: s = 2, k = 3, so q = 0 and r = 2; d stays, e moves to 9 and F to 12. Two
+        // levels down A's last leaf stands at 14 and F's first at 8: s = 8, k = 5, so q = 1 and
+        // r = 3; b, C, d, e move by 1, 2, 3 + 1, 4 + 2 to 3, 6, 10, 15 and F to 20. The root
+        // stands at 10.
+        expect(
+            2,
+            &[
+                (0, 0),
+                (1, -10),
+                (2, -10),
+                (3, -24),
+                (3, -22),
+                (3, -20),
+                (3, -18),
+                (3, -16),
+                (3, -14),
+                (3, -12),
+                (3, -10),
+                (3, -8),
+                (3, -6),
+                (3, -4),
+                (3, -2),
+                (3, 0),
+                (3, 2),
+                (3, 4),
+                (1, -7),
+                (1, -4),
+                (2, -6),
+                (2, -4),
+                (2, -2),
+                (1, 0),
+                (1, 5),
+                (1, 10),
+                (2, 6),
+                (2, 8),
+                (2, 10),
+                (3, 6),
+                (3, 8),
+                (3, 10),
+                (3, 12),
+                (3, 14),
+                (2, 12),
+                (2, 14),
+            ],
+        );
+    }
+
+    #[test]
     fn refusals_of_the_paper() {
         let none = crate::table::NONE;
         assert_eq!(lay_out(&[], 5).number, 1);
@@ -579,6 +768,55 @@ mod tests {
                 let table = (shape.make)(nodes, &mut random);
                 let table = shapes::renumbered_at_random(&table, &mut random);
                 hold_promises(&table, random.between(1, 1_024) as u16);
+            }
+        }
+    }
+
+    /// By how much each gap from child i to child j grows, left to right.
+    fn growths(conflict: &Conflict) -> Vec<i64> {
+        let (k, q, r) = (conflict.k(), conflict.q(), conflict.r());
+        let growths: Vec<i64> = (0..k).map(|gap| q + i64::from(gap >= k - r)).collect();
+        assert_eq!(growths.iter().sum::<i64>(), conflict.s);
+        growths
+    }
+
+    /// The distances between siblings are D and what each conflict adds to the gaps between them.
+    fn hold_gaps(table: &[u16], separation: u16) {
+        let children = children_of(table);
+        let mut gaps: Vec<Vec<i64>> = children
+            .iter()
+            .map(|family| vec![i64::from(separation); family.len().saturating_sub(1)])
+            .collect();
+        for conflict in conflicts(table, separation) {
+            let between = &mut gaps[conflict.parent][conflict.i..conflict.j];
+            for (gap, growth) in between.iter_mut().zip(growths(&conflict)) {
+                *gap += growth;
+            }
+        }
+        let places = lay_out(table, separation).places;
+        for (family, gaps) in children.iter().zip(gaps) {
+            let distances = family
+                .windows(2)
+                .map(|pair| places[pair[1]] - places[pair[0]]);
+            assert!(
+                distances.map(i64::from).eq(gaps),
+                "D = {separation}, {table:?}"
+            );
+        }
+    }
+
+    #[test]
+    fn gaps_and_promises_where_conflicts_are_shared() {
+        for (table, separation) in (1..=8).flat_map(shapes::every_tree).zip((1..=5).cycle()) {
+            hold_gaps(&table, separation);
+        }
+        let mut random = Random::new(31);
+        for (_, trees) in shapes::made_for_conflicts(&mut random) {
+            for (count, (table, separation)) in trees.into_iter().enumerate() {
+                hold_gaps(&table, separation);
+                if count % 15 == 0 {
+                    hold_promises(&table, separation);
+                }
             }
         }
     }

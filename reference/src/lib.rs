@@ -4,6 +4,7 @@
 //! obviously right rather than fast. The comparisons in `tests/` hold the library and its listing
 //! program against them.
 
+pub mod conflicts;
 pub mod ffi;
 pub mod files;
 pub mod layout;

@@ -2,9 +2,9 @@
 //!
 //! The names are those of document 004: a preliminary place, a modifier for everything below a
 //! node, threads along the contours, shift and change for the go-betweens, ancestor and default
-//! ancestor. Whole units change two lines: a share is rounded down, and what remains of a shift
-//! stays in the last gap. The walks go along parent links instead of calling themselves, so that
-//! depth costs no stack. The table is taken as well-formed.
+//! ancestor. Whole units change one step: a share is rounded down, and of what remains of a shift
+//! the rightmost gaps take one unit each. The walks go along parent links instead of calling
+//! themselves, so that depth costs no stack. The table is taken as well-formed.
 
 use crate::table::NONE;
 
@@ -19,7 +19,7 @@ struct Node {
     last_child: u16,
     left_sibling: u16,
     next_sibling: u16,
-    /// How many elder siblings it has.
+    /// Its place in the list of families.
     number: u16,
     thread: u16,
     ancestor: u16,
@@ -55,11 +55,15 @@ pub struct Extent {
 /// The nodes of one tree, kept so that one layout after another needs no new memory.
 pub struct Pointers {
     nodes: Vec<Node>,
+    /// All nodes but the root, siblings side by side. It leads from a child to the one so many
+    /// places to its left in one step; along the links a conflict would cost as many steps.
+    families: Vec<u16>,
 }
 
 /// The layout of one tree under way.
 struct Walk<'a, const RECORD: bool> {
     nodes: &'a mut [Node],
+    families: &'a [u16],
     separation: i32,
     record: &'a mut [u16],
     pairs: usize,
@@ -69,6 +73,7 @@ impl Pointers {
     pub fn new(most_nodes: usize) -> Self {
         Pointers {
             nodes: vec![FRESH; most_nodes],
+            families: vec![NONE; most_nodes],
         }
     }
 
@@ -84,9 +89,11 @@ impl Pointers {
     ) -> Extent {
         let count = table.len() / 2;
         let nodes = &mut self.nodes[..count];
-        link(nodes, table);
+        let families = &mut self.families[..count];
+        link(nodes, families, table);
         let mut walk: Walk<RECORD> = Walk {
             nodes,
+            families,
             separation: i32::from(separation),
             record,
             pairs: 0,
@@ -96,8 +103,8 @@ impl Pointers {
     }
 }
 
-/// Fresh nodes with the links that the table gives.
-fn link(nodes: &mut [Node], table: &[u16]) {
+/// Fresh nodes with the links that the table gives, and the list of families.
+fn link(nodes: &mut [Node], families: &mut [u16], table: &[u16]) {
     for (node, (links, entries)) in nodes.iter_mut().zip(table.chunks_exact(2)).enumerate() {
         *links = Node {
             first_child: entries[0],
@@ -107,15 +114,16 @@ fn link(nodes: &mut [Node], table: &[u16]) {
             ..FRESH
         };
     }
+    let mut number = 0;
     for parent in 0..nodes.len() {
         let mut elder = NONE;
-        let mut number = 0;
         let mut child = nodes[parent].first_child;
         while child != NONE {
             let links = &mut nodes[usize::from(child)];
             links.parent = parent as u16;
             links.left_sibling = elder;
             links.number = number;
+            families[usize::from(number)] = child;
             number += 1;
             elder = child;
             child = links.next_sibling;
@@ -282,16 +290,25 @@ impl<const RECORD: bool> Walk<'_, RECORD> {
         }
     }
 
-    /// Moves a subtree at once and notes the shares of the siblings between.
+    /// Moves a subtree at once and notes the shares of the siblings between. To the left of it they
+    /// fall from gap to gap, first by one unit more, as many times as the remainder says.
     fn move_subtree(&mut self, left: u16, subtree: u16, shift: i32) {
-        let gaps = i32::from(self.at(subtree).number - self.at(left).number);
+        let number = self.at(subtree).number;
+        let gaps = i32::from(number - self.at(left).number);
         let share = shift / gaps;
+        let remainder = shift % gaps;
+        self.at_mut(left).change += share;
+        // Without the case the sums would be the same, but slower where neighbours conflict.
+        if remainder > 0 {
+            let odd_units_end = self.families[usize::from(number) - remainder as usize];
+            self.at_mut(odd_units_end).change += 1;
+            self.at_mut(subtree).change -= 1;
+        }
         let moved = self.at_mut(subtree);
         moved.change -= share;
-        moved.shift += gaps * share;
+        moved.shift += shift;
         moved.prelim += shift;
         moved.modifier += shift;
-        self.at_mut(left).change += share;
     }
 
     /// Gives the children of a node their shares, from right to left.
@@ -350,6 +367,7 @@ impl<const RECORD: bool> Walk<'_, RECORD> {
 #[cfg(test)]
 mod tests {
     use super::*;
+    use crate::conflicts::Tally;
     use crate::layout::{layout, Slices};
     use crate::random::Random;
     use crate::shapes;
@@ -453,5 +471,19 @@ mod tests {
             }
             compare(&mut pointers, &shapes::largest(family, 1_024), 5);
         }
+    }
+
+    #[test]
+    fn agrees_on_trees_made_for_their_conflicts() {
+        let mut random = Random::new(41);
+        let mut pointers = Pointers::new(1_024);
+        let mut tally = Tally::default();
+        for (_, trees) in shapes::made_for_conflicts(&mut random) {
+            for (table, separation) in trees {
+                compare(&mut pointers, &table, separation);
+                tally.add(&table, separation);
+            }
+        }
+        tally.expect_every_kind();
     }
 }

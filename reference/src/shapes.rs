@@ -1,10 +1,12 @@
-//! Makers of tables: shapes of trees, the families of document 004, every small tree, tables that
-//! are refused, and what is done to a table to make another.
+//! Makers of tables: shapes of trees, the families of document 004, trees made for their conflicts,
+//! every small tree, tables that are refused, and what is done to a table to make another.
 //!
 //! A maker of a shape gives exactly as many nodes as it is asked for, at least one.
 
 use crate::random::Random;
-use crate::table::{children_of, parents_first, reached_from, table_of, Children, NONE};
+use crate::table::{
+    children_of, parents_first, reached_from, table_of, Children, MOST_NODES, NONE,
+};
 
 /// A named maker of trees of a given size.
 pub struct Shape {
@@ -56,7 +58,11 @@ pub const SHAPES: [Shape; 10] = [
     },
 ];
 
+/// Picks one of a row of siblings.
+type Pick = fn(&[usize]) -> Option<&usize>;
+
 /// A tree that grows by one leaf at a time.
+#[derive(Clone)]
 struct Growing {
     children: Children,
 }
@@ -97,6 +103,42 @@ impl Growing {
         for _ in 0..length {
             end = self.add(end);
         }
+    }
+
+    /// So many leaves after the other children.
+    fn add_leaves(&mut self, parent: usize, count: usize) {
+        for _ in 0..count {
+            self.add(parent);
+        }
+    }
+
+    /// A new last child over rows of so many siblings, each row under the one of those above that
+    /// `parent_of` picks.
+    fn add_rows(&mut self, parent: usize, rows: &[usize], parent_of: Pick) {
+        let mut above = self.add(parent);
+        for &count in rows {
+            self.add_leaves(above, count);
+            above = *parent_of(&self.children[above]).expect("a row has nodes");
+        }
+    }
+
+    /// A new last child with up to two nodes under it, on at most so many levels.
+    fn add_small(&mut self, parent: usize, most_levels: usize, random: &mut Random) {
+        const ROWS: [&[usize]; 6] = [&[], &[], &[], &[1], &[2], &[1, 1]];
+        let rows = ROWS[random.below(ROWS.len())];
+        self.add_rows(parent, &rows[..rows.len().min(most_levels)], <[_]>::last);
+    }
+
+    /// A path of so many nodes under the root, each among up to four leaves. Gives its end.
+    fn add_path(&mut self, length: usize, random: &mut Random) -> usize {
+        let mut path = 0;
+        for _ in 0..length {
+            self.add_leaves(path, random.between(0, 2));
+            let next = self.add(path);
+            self.add_leaves(path, random.between(0, 2));
+            path = next;
+        }
+        path
     }
 
     /// A new last child with the subtrees of another tree's root.
@@ -298,6 +340,146 @@ pub fn largest(family: fn(usize) -> Vec<u16>, most_nodes: usize) -> Vec<u16> {
         .take_while(|table| table.len() <= 2 * most_nodes)
         .last()
         .expect("the member of k = 1 fits")
+}
+
+/// Trees with a separation each.
+pub type Spaced = Vec<(Vec<u16>, u16)>;
+
+/// Trees made for their conflicts, by what these are.
+pub fn made_for_conflicts(random: &mut Random) -> [(&'static str, Spaced); 3] {
+    [
+        ("conflicts with every remainder", every_remainder(random)),
+        (
+            "several conflicts of one child",
+            families_at_random(add_falling, random),
+        ),
+        (
+            "conflicts with default ancestors",
+            families_at_random(add_rising, random),
+        ),
+    ]
+}
+
+/// The most gaps of a conflict of which every remainder is made.
+pub const MOST_GAPS: usize = 40;
+
+/// For each count of gaps and each remainder conflicts of less and of more than one unit a gap:
+/// with the first child and with a later one, under the root and further down.
+fn every_remainder(random: &mut Random) -> Spaced {
+    let mut trees = Vec::new();
+    for gaps in 1..=MOST_GAPS {
+        for remainder in 0..gaps {
+            let share = random.between(1, (1_024 - remainder) / gaps);
+            for separation in [remainder, gaps * share + remainder] {
+                let (elder, depth) = (random.between(1, 4), random.between(1, 4));
+                for (elder, depth) in [(0, 0), (elder, 0), (0, depth), (elder, depth)] {
+                    let table = one_conflict(gaps, elder, depth, random);
+                    trees.push((table, separation as u16));
+                }
+            }
+        }
+    }
+    trees.retain(|&(_, separation)| separation > 0);
+    trees
+}
+
+/// A family so many levels down, in which two children so many gaps apart meet with s = D, since
+/// their rows reach as far towards each other as these gaps. Leaves stand between the two, and so
+/// many small subtrees before them.
+fn one_conflict(gaps: usize, elder: usize, depth: usize, random: &mut Random) -> Vec<u16> {
+    let mut tree = Growing::root();
+    let parent = tree.add_path(depth, random);
+    for _ in 0..elder {
+        tree.add_small(parent, 2, random);
+    }
+    let reach = random.between(0, gaps);
+    tree.add_rows(parent, &row_on(1, reach), <[_]>::last);
+    tree.add_leaves(parent, gaps - 1);
+    tree.add_rows(parent, &row_on(1, gaps - reach), <[_]>::last);
+    tree.table()
+}
+
+/// Rows of one node but for the last of so many, which reaches so many times D to either side.
+fn row_on(level: usize, reach: usize) -> Vec<usize> {
+    let mut rows = vec![1; level];
+    if let Some(row) = rows.last_mut() {
+        *row += 2 * reach;
+    }
+    rows
+}
+
+/// Trees with a family of one kind under the root or further down, and up to three more under any
+/// of their nodes, with any numbers.
+fn families_at_random(add: fn(&mut Growing, usize, &mut Random), random: &mut Random) -> Spaced {
+    let mut trees = Vec::new();
+    for _ in 0..1_000 {
+        let mut tree = Growing::root();
+        let depth = random.below(5);
+        let parent = tree.add_path(depth, random);
+        add(&mut tree, parent, random);
+        for _ in 0..random.below(4) {
+            let mut larger = tree.clone();
+            add(&mut larger, random.below(tree.nodes()), random);
+            if larger.nodes() <= MOST_NODES {
+                tree = larger;
+            }
+        }
+        let table = renumbered_at_random(&tree.table(), random);
+        let greatest = [12, 100, 1_024][random.below(3)];
+        trees.push((table, random.between(1, greatest) as u16));
+    }
+    trees
+}
+
+/// Children ever less deep, leaves between them, and a last one as deep as the first, which meets
+/// each of the others on the last level of that one.
+fn add_falling(tree: &mut Growing, parent: usize, random: &mut Random) {
+    let (mut last, mut others) = (Vec::new(), Vec::new());
+    // From the last child to the left. The others do not meet, as none reaches to the next. From
+    // level to level the last reaches further by what is between two of them, and by the shift.
+    let mut gaps = random.between(1, 4);
+    let mut reach_before = 0;
+    for level in 1..=random.between(2, 24) {
+        let gaps_beyond = random.between(1, 4);
+        let reach = random.between(0, gaps.min(gaps_beyond - 1));
+        let shift = random.between(1, 2);
+        let step = reach_before + gaps - reach + shift;
+        last.push(2 * step + random.between(1, 2));
+        others.push((row_on(level, reach), gaps - 1));
+        (gaps, reach_before) = (gaps_beyond, reach);
+    }
+    for (rows, leaves) in others.into_iter().rev() {
+        tree.add_rows(parent, &rows, <[_]>::last);
+        tree.add_leaves(parent, leaves);
+    }
+    tree.add_rows(parent, &last, <[_]>::first);
+}
+
+/// Children ever deeper or as deep, small ones before and between them, each of which meets the one
+/// before it on the last level of that one: the default ancestor if it was deeper.
+fn add_rising(tree: &mut Growing, parent: usize, random: &mut Random) {
+    for _ in 0..random.below(4) {
+        tree.add_small(parent, 1, random);
+    }
+    let mut level = random.between(2, 4);
+    let mut right = random.between(0, 16);
+    tree.add_rows(parent, &row_on(level, right), <[_]>::last);
+    for _ in 0..random.between(1, 6) {
+        let gaps = random.between(1, 16);
+        for _ in 1..gaps {
+            tree.add_small(parent, level - 1, random);
+        }
+        let left = (gaps + random.below(3)).saturating_sub(right);
+        let deeper = random.below(4);
+        right = if deeper == 0 {
+            left
+        } else {
+            random.between(0, 16)
+        };
+        let rows = [row_on(level, left), row_on(deeper, right)].concat();
+        tree.add_rows(parent, &rows, <[_]>::last);
+        level += deeper;
+    }
 }
 
 /// A well-formed table of any shape, its numbers in any order.
@@ -582,6 +764,20 @@ mod tests {
         }
         assert_eq!(largest(contour_family, 1_024).len() / 2, 1_023);
         assert_eq!(largest(share_family, 1_024).len() / 2, 932);
+    }
+
+    #[test]
+    fn trees_made_for_their_conflicts_are_well_formed() {
+        let mut source = Random::new(8);
+        let mut most_nodes = 0;
+        for (title, trees) in made_for_conflicts(&mut source) {
+            for (table, separation) in trees {
+                assert_eq!(refusal(&table), 0, "{title}: {table:?}");
+                assert!((1..=1_024).contains(&separation), "{title}");
+                most_nodes = most_nodes.max(table.len() / 2);
+            }
+        }
+        assert!(most_nodes > 1_000, "{most_nodes} nodes");
     }
 
     #[test]

@@ -4,6 +4,7 @@
 //! After a refusal every entry must be as it was and every field 0; after an acceptance every
 //! entry past those named must be as it was.
 
+use reference::conflicts::Tally;
 use reference::ffi::{self, Fields};
 use reference::layout::{self, Slices};
 use reference::lent::{Entry, Lent};
@@ -249,6 +250,26 @@ impl Comparison {
         self.run.end_section("strays and rings");
     }
 
+    /// Trees made for their conflicts, which are tallied before any of them is laid out.
+    fn conflicts(&mut self) {
+        let sections = shapes::made_for_conflicts(&mut self.run.random);
+        let mut tally = Tally::default();
+        for (table, separation) in sections.iter().flat_map(|(_, trees)| trees) {
+            tally.add(table, *separation);
+        }
+        self.run.note(&tally.to_string());
+        tally.expect_every_kind();
+        for (title, trees) in sections {
+            for (count, (table, separation)) in trees.into_iter().enumerate() {
+                self.exact(&table, separation);
+                if count % 7 == 0 {
+                    self.every_length(&table);
+                }
+            }
+            self.run.end_section(title);
+        }
+    }
+
     /// Small trees at random: many of them, with slices of any length now and then.
     fn small_trees(&mut self) {
         for _ in 0..110_000 {
@@ -294,6 +315,7 @@ fn the_layout_agrees_with_the_model() {
     comparison.every_small_tree();
     comparison.shapes();
     comparison.strays_and_rings();
+    comparison.conflicts();
     comparison.small_trees();
     comparison
         .run
