@@ -163,34 +163,26 @@ module _ {shift change shift′ change′ : ℕ → ℤ} {i j s : ℕ} (end : �
 
 -- ---- how far the numbers can grow
 
+-- an entry is at most its amount
+entry-most : (w a s : ℕ) → is w a * s ≤ s
+entry-most w a s = ⊎-elim (λ h. rw (h .1) (omega arith)) (λ h. rw (h .1) (omega arith)) (is-cases w a)
+
 -- at no position do q at i, 1 at r before j and -(q + 1) at j make more than s
 entries-small : (i j k q r s w : ℕ) → i + k ≡ j → r < k → k * q + r ≡ s
     → (is w (j - r) * 1 + is w i * q ≤ s + is w j * (q + 1)) × (is w j * (q + 1) ≤ s + (is w (j - r) * 1 + is w i * q))
 entries-small i j k q r s w e h whole =
-    let one : 1 ≤ k = omega arith in
-    let most : q + r ≤ s = omega (arith, mul-le-mul-right q one) in
-    ⊎-elim (λ a.
-    let off : is w i ≡ 0 = is-other w i (λ x. omega (arith, a .0)) in
-    ⊎-elim (λ b. rw (a .1, b .1, off) (omega arith)) (λ b. let some : 0 < r = positive (a .0) (b .0) in rw (a .1, b .1, off) (omega arith)) (is-cases w (j - r)))
-    (λ a. ⊎-elim (λ b.
-    let some : 0 < r = behind (a .0) (b .0) in
-    rw (a .1, b .1, is-other w i (λ x. omega (arith, b .0))) (omega arith))
-    (λ b. ⊎-elim (λ d. rw (a .1, b .1, d .1) (omega arith)) (λ d. rw (a .1, b .1, d .1) (omega arith)) (is-cases w i))
-    (is-cases w (j - r)))
-    (is-cases w j)
-  where
-    positive : w ≡ j → (w ≡ j - r → ⊥) → 0 < r
-    positive same other = ⊎-elim (λ z. absurd (other (omega arith))) (λ p. p) (eq-zero-or-pos r)
-
-    behind : (w ≡ j → ⊥) → w ≡ j - r → 0 < r
-    behind other same = ⊎-elim (λ z. absurd (other (omega arith))) (λ p. p) (eq-zero-or-pos r)
+    let some : 1 ≤ k = omega arith in
+    let most : q + r ≤ s = omega (arith, mul-le-mul-right q some) in
+    ⊎-elim (λ (none : r ≡ 0). let same : j - r ≡ j = omega arith in rw same (omega (arith, entry-most w i q, entry-most w j q)))
+    (λ (odd : 0 < r).
+    ⊎-elim (λ met. rw (met .1, is-other w (j - r) (λ x. omega (arith, met .0))) (omega (arith, entry-most w j (q + 1))))
+    (λ other. rw (other .1) (omega (arith, entry-most w (j - r) 1, entry-most w j (q + 1))))
+    (is-cases w i))
+    (eq-zero-or-pos r)
 
 module _ {shift change shift′ change′ : ℕ → ℤ} {i j s : ℕ} (M : Met shift change shift′ change′ i j s) (before : i < j) where
   pub shift-grown : (w : ℕ) → natAbs (shift′ w) ≤ natAbs (shift w) + s
-  shift-grown w =
-      let added = natAbs-add (shift w) (entry j s w) in
-      let now = ap natAbs (M .shifts w) in
-      ⊎-elim (λ h. omega (arith, ap (λ (x : ℕ). x * s) (h .1))) (λ h. omega (arith, ap (λ (x : ℕ). x * s) (h .1))) (is-cases w j)
+  shift-grown w = omega (arith, ap natAbs (M .shifts w), natAbs-add (shift w) (entry j s w), entry-most w j s)
 
   pub change-grown : (w : ℕ) → natAbs (change′ w) ≤ natAbs (change w) + s
   change-grown w =

@@ -1,6 +1,6 @@
--- Moves that are gathered: a meeting of two children leaves a shift and a change at them, and one pass over the row from right to left finds
+-- Moves that are gathered: a meeting of two children leaves a shift and changes behind, and one pass over the row from right to left finds
 -- how far every child between them moves.
-use Prim.Native.Nat.{ℕ, zero, suc, _+_, _-_}
+use Prim.Native.Nat.{ℕ, zero, suc, _-_}
 use lib.IntN.{ℤ, pos, _+ℤ_}
 
 -- what the pass carries: how far the next child moves, and by how much that grows from child to child

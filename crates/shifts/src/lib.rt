@@ -1,4 +1,4 @@
-// Shifts and changes. A meeting of two children leaves what those between them have to move as a shift and two changes; one pass over a row,
+// Shifts and changes. A meeting of two children leaves what those between them have to move as a shift and three changes; one pass over a row,
 // from right to left, carries all of it out.
 ghost use mathlib.Core.Path.{_≡_};
 ghost use mathlib.Core.Bool.{true};
