@@ -110,23 +110,26 @@ pub record Turned (J : Join) (old new : Fields) (i s z : ℕ) : Type 0 where
   pub others : (w : ℕ) → (w ≡ z → ⊥) → new .ancestor w ≡ old .ancestor w
 
 module _ {J : Join} {old new : Fields} {i s z : ℕ} (T : Turned J old new i s z) (row : J .f + i < J .c) where
+  abbrev met : Meeting
+  met = record { child = i; amount = s }
+
   turned-by : (p n : ℕ) → p < J .end → (s ≡ 0 → n ≡ 0) → shareAt (J .f + i) (J .c) s p ≡ n → pendingIn J new p ≡ pendingIn J old p +ℤ pos n
   turned-by p n h none share =
       ⊎-elim (λ q. ap₂ (λ (u v : ℕ → ℤ). pending u v (J .end) p) (q .1) (q .2) ∙ sym (+ℤ-idr (pendingIn J old p)) ∙ ap (λ (k : ℕ). pendingIn J old p +ℤ pos k) (sym (none (q .0))))
       (λ M. pending-met (J .end) M row (J .inside) p h ∙ ap (λ (k : ℕ). pendingIn J old p +ℤ pos k) share)
       (T .moves)
 
-  turned-moves : Moves J old new (record { child = i; amount = s } ∷ [])
+  turned-moves : Moves J old new (met ∷ [])
   turned-moves =
       record {
         row = λ p h k. turned-by p _ (omega (arith, J .inside)) (none p k) (share-left (J .f + i) (J .c) s p k ∙ same-share p);
         beyond = λ p h k. turned-by p 0 k (λ e. refl) (share-right (J .f + i) (J .c) s p h) ∙ +ℤ-idr (pendingIn J old p);
       }
     where
-      none : (p : ℕ) → p < J .c → s ≡ 0 → share (J .c - J .f) (record { child = i; amount = s }) (p - J .f) + 0 ≡ 0
-      none p h e = let inside : p - J .f ≤ J .c - J .f = omega arith in omega (arith, share-le (J .c - J .f) (record { child = i; amount = s }) (p - J .f) inside)
+      none : (p : ℕ) → p < J .c → s ≡ 0 → share (J .c - J .f) met (p - J .f) + 0 ≡ 0
+      none p h e = let inside : p - J .f ≤ J .c - J .f = omega arith in omega (arith, share-le (J .c - J .f) met (p - J .f) inside)
 
-      same-share : (p : ℕ) → evenly (J .c - (J .f + i)) s (p - (J .f + i)) ≡ share (J .c - J .f) (record { child = i; amount = s }) (p - J .f) + 0
+      same-share : (p : ℕ) → evenly (J .c - (J .f + i)) s (p - (J .f + i)) ≡ share (J .c - J .f) met (p - J .f) + 0
       same-share p =
           let near : p - (J .f + i) ≡ p - J .f - i = omega arith in
           let far : J .c - (J .f + i) ≡ J .c - J .f - i = omega arith in
