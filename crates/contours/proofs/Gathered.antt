@@ -8,11 +8,11 @@ use native.Mathlib.Nat.{mul-le-mul-right, eq-zero-or-pos}
 use native.Mathlib.Omega.{arith}
 use lib.Dec.{ltb}
 use borrow.Author.Tests.{lt-ltb, le-ltb}
-use lib.IntN.{ℤ, pos, natAbs, _+ℤ_}
+use lib.IntN.{ℤ, pos, natAbs, _+ℤ_, +ℤ-assoc}
 use Rattle.tree.specs.Numbers.{is}
 use Rattle.tree.proofs.Counting.{is-other, is-cases, below-or-not}
 use Rattle.rule.specs.Join.{above0, quotient, remainder, evenly}
-use Rattle.rule.proofs.Signed.{below0, one-part, parts-add, parts-eq, natAbs-parts, natAbs-add}
+use Rattle.rule.proofs.Signed.{below0, one-part, parts-add, parts-eq, swap-last, natAbs-parts, natAbs-add}
 use Rattle.rule.proofs.Shares.{whole-shared, remainder-small}
 use Rattle.contours.specs.Gather.{Carried, carry, gather, pending}
 
@@ -46,9 +46,7 @@ abbrev both : Carried → Carried → Carried
 both g h = carried (g .sum +ℤ h .sum) (g .rate +ℤ h .rate)
 
 swap-middle : (a b c d : ℤ) → (a +ℤ b) +ℤ (c +ℤ d) ≡ (a +ℤ c) +ℤ (b +ℤ d)
-swap-middle a b c d =
-    parts-eq ((a +ℤ b) +ℤ (c +ℤ d)) ((a +ℤ c) +ℤ (b +ℤ d))
-    (omega (arith, parts-add a b, parts-add c d, parts-add a c, parts-add b d, parts-add (a +ℤ b) (c +ℤ d), parts-add (a +ℤ c) (b +ℤ d)))
+swap-middle a b c d = sym (+ℤ-assoc (a +ℤ b) c d) ∙ ap (λ (z : ℤ). z +ℤ d) (swap-last a b c) ∙ +ℤ-assoc (a +ℤ c) b d
 
 carry-both : (s t c d : ℤ) (g h : Carried) → carry (s +ℤ t) (c +ℤ d) (both g h) ≡ both (carry s c g) (carry t d h)
 carry-both s t c d g h =

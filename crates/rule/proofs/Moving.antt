@@ -5,12 +5,12 @@ use mathlib.Core.List.{List, [], _∷_, map}
 use Prim.Native.Nat.{ℕ, zero, suc, _+_, _<_}
 use native.Mathlib.Nat.{not-suc-le-zero, add-zero, zero-add}
 use native.Mathlib.Omega.{arith}
-use lib.IntN.{ℤ, pos, _+ℤ_, _-ℤ_}
+use lib.IntN.{ℤ, pos, negℤ, _+ℤ_, _-ℤ_}
 use Rattle.tree.specs.Levels.{beside}
 use Rattle.tree.proofs.Joined.{beside-assoc, beside-nil, map-beside}
 use Rattle.rule.specs.Drawing.{Drawing, none, at, width, append, placeAt, middle, Dot, dot, dots, rowDots}
 use Rattle.rule.specs.Join.{Meeting, shares, total, spread, start, alone, join, meetings, settled}
-use Rattle.rule.proofs.Signed.{parts-add, parts-sub, parts-eq}
+use Rattle.rule.proofs.Signed.{parts-add, parts-sub, parts-eq, swap-last}
 
 -- ---- a dot moved, alone or by what its child moves
 
@@ -20,15 +20,9 @@ shiftBy c e = dot (e .child) (e .node) (e .place +ℤ c)
 abbrev pub moveBy : (ℕ → ℕ) → Dot → Dot
 moveBy m e = shiftBy (pos (m (e .child))) e
 
--- (o + c) + x is (o + x) + c, and the same with less y behind it
-swap : (o c x : ℤ) → (o +ℤ c) +ℤ x ≡ (o +ℤ x) +ℤ c
-swap o c x =
-    parts-eq ((o +ℤ c) +ℤ x) ((o +ℤ x) +ℤ c) (omega (arith, parts-add o c, parts-add (o +ℤ c) x, parts-add o x, parts-add (o +ℤ x) c))
-
+-- (o + c) + x - y is (o + x) - y + c
 swap-less : (o c x y : ℤ) → ((o +ℤ c) +ℤ x) -ℤ y ≡ ((o +ℤ x) -ℤ y) +ℤ c
-swap-less o c x y =
-    parts-eq (((o +ℤ c) +ℤ x) -ℤ y) (((o +ℤ x) -ℤ y) +ℤ c)
-    (omega (arith, parts-add o c, parts-add (o +ℤ c) x, parts-add o x, parts-sub ((o +ℤ c) +ℤ x) y, parts-sub (o +ℤ x) y, parts-add ((o +ℤ x) -ℤ y) c))
+swap-less o c x y = ap (λ (z : ℤ). z -ℤ y) (swap-last o c x) ∙ swap-last (o +ℤ x) c (negℤ y)
 
 -- a dot of another child, at another place
 abbrev pub settle : ℕ → ℤ → Dot → Dot
@@ -39,7 +33,7 @@ pub dots-settle : (i p : ℕ) (o c : ℤ) (d : Drawing) → dots i (o +ℤ c) d 
 dots-settle i p o c none = refl
 dots-settle i p o c (at v x below after) =
     ap₂ (λ (l m : List (List Dot)). beside l m)
-    (ap₂ (λ (q : ℤ) (l : List (List Dot)). (dot i v q ∷ []) ∷ l) (swap o c (pos x))
+    (ap₂ (λ (q : ℤ) (l : List (List Dot)). (dot i v q ∷ []) ∷ l) (swap-last o c (pos x))
     (ap (λ (q : ℤ). dots i q below) (swap-less o c (pos x) (pos (middle below))) ∙ dots-settle i p (o +ℤ pos x -ℤ pos (middle below)) c below))
     (dots-settle i p o c after)
     ∙ sym (map-beside (settle i c) ((dot p v (o +ℤ pos x) ∷ []) ∷ dots p (o +ℤ pos x -ℤ pos (middle below)) below) (dots p o after))

@@ -76,6 +76,11 @@ parts-eq (pos a) (negsuc b) e = absurd (omega arith)
 parts-eq (negsuc a) (pos b) e = absurd (omega arith)
 parts-eq (negsuc a) (negsuc b) e = ap negsuc (omega arith)
 
+-- of three that are added up, the last two change places
+pub swap-last : (x y z : ℤ) → (x +ℤ y) +ℤ z ≡ (x +ℤ z) +ℤ y
+swap-last x y z =
+    parts-eq ((x +ℤ y) +ℤ z) ((x +ℤ z) +ℤ y) (omega (arith, parts-add x y, parts-add (x +ℤ y) z, parts-add x z, parts-add (x +ℤ z) y))
+
 -- x is at most y, said of the parts
 abbrev pub AtMost : ℤ → ℤ → Type 0
 AtMost x y = above0 x + below0 y ≤ above0 y + below0 x

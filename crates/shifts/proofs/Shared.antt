@@ -8,27 +8,12 @@ use lib.IntN.{ℤ, pos, negℤ, natAbs, _+ℤ_}
 use lib.ListN.{length, drop}
 use Rattle.tree.proofs.Counting.{is-cases}
 use Rattle.rule.specs.Join.{quotient, remainder}
-use Rattle.rule.proofs.Signed.{parts-add, parts-eq, natAbs-neg}
+use Rattle.rule.proofs.Signed.{natAbs-neg, swap-last}
 use Rattle.rule.proofs.Shares.{remainder-small}
 use Rattle.level_order.specs.Fields.{cell, get, SHIFT, CHANGE}
 use Rattle.contours.proofs.Gathered.{entry, Met, shift-grown, change-grown}
 use Rattle.shifts.specs.Shifts.{shifted, lessened, raised, shared}
 use Rattle.shifts.proofs.Added.{added-length, added-field, added-position, added-rest, added-size, added-more, added-less}
-
-last-first : (x a b d : ℤ) → ((x +ℤ a) +ℤ b) +ℤ d ≡ ((x +ℤ d) +ℤ a) +ℤ b
-last-first x a b d =
-    parts-eq (((x +ℤ a) +ℤ b) +ℤ d) (((x +ℤ d) +ℤ a) +ℤ b)
-    (omega (
-      arith,
-      parts-add x a,
-      parts-add (x +ℤ a) b,
-      parts-add ((x +ℤ a) +ℤ b) d,
-      parts-add x d,
-      parts-add (x +ℤ d) a,
-      parts-add ((x +ℤ d) +ℤ a) b,
-    ))
-
--- ---- the four additions of a meeting
 
 module _ (work : List ℤ) (i c s : ℕ) where
   abbrev q : ℕ
@@ -70,7 +55,8 @@ module _ (work : List ℤ) (i c s : ℕ) where
             (added-more (raised work i c s) CHANGE i q (omega arith) (omega (arith, raised-length)) w
             ∙ ap (λ (x : ℤ). x +ℤ entry i q w)
             (added-more (lessened work i c s) CHANGE (c - r) 1 (omega arith) (omega (arith, lessened-length)) w))
-            ∙ last-first (get (lessened work i c s) CHANGE w) (entry (c - r) 1 w) (entry i q w) (entry c (q + 1) w)
+            ∙ swap-last (get (lessened work i c s) CHANGE w +ℤ entry (c - r) 1 w) (entry i q w) (entry c (q + 1) w)
+            ∙ ap (λ (x : ℤ). x +ℤ entry i q w) (swap-last (get (lessened work i c s) CHANGE w) (entry (c - r) 1 w) (entry c (q + 1) w))
             ∙ ap (λ (x : ℤ). (x +ℤ entry (c - r) 1 w) +ℤ entry i q w)
             (added-less (shifted work i c s) CHANGE c (q + 1) (omega arith) (omega (arith, shifted-length)) w
             ∙ shifted-field CHANGE w (omega arith) (λ e. omega arith))
