@@ -25,12 +25,15 @@ step separation j s (a ∷ us) (b ∷ ws) =
     let amount = shortfall (needed separation (a .node) (b .node)) (a .place) (b .place) in
     record { row = spread j (record { child = a .child; amount = amount } ∷ []) 0 (s .row); place = s .place + amount }
 
+-- level l of the walk
+abbrev pub walkLevel : ℕ → ℕ → ℕ → ℕ → Drawing → Joining → Joining
+walkLevel separation l j v below s =
+    step separation j s (drop l (rowContour (s .row))) (drop l (leftContour (dots j (pos 0) (alone v (s .place) below))))
+
 -- k levels from level l on
 abbrev pub walkDown : ℕ → ℕ → ℕ → ℕ → ℕ → Drawing → Joining → Joining
 walkDown separation zero l j v below s = s
-walkDown separation (suc k) l j v below s =
-    walkDown separation k (suc l) j v below
-    (step separation j s (drop l (rowContour (s .row))) (drop l (leftContour (dots j (pos 0) (alone v (s .place) below)))))
+walkDown separation (suc k) l j v below s = walkDown separation k (suc l) j v below (walkLevel separation l j v below s)
 
 -- the join, for as many levels as the row's contour has
 abbrev pub joinAtOnce : ℕ → Drawing → ℕ → Drawing → Drawing

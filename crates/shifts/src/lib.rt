@@ -25,7 +25,8 @@ fn add(work: &mut [i32], p: usize, field: usize, amount: i32)
     put(work, p, field, before + amount);
 }
 
-// Shares s over the gaps between the children i and c: q for each, and one more for the r rightmost. Where r is 0, the two changes at c make -q.
+// Shares s over the gaps between the children i and c: q for each, and one more for the r rightmost. Where r is 0, the two changes at c
+// make -q.
 pub fn share(work: &mut [i32], i: usize, c: usize, s: usize)
     requires { ⌜ (i < c) × (c < 1024) × (s ≤ 4194304) ⌝ }
     requires { ⌜ cell c Fields.CHANGE < length (now work) ⌝ }
