@@ -1,5 +1,5 @@
 /*
- * Copy sheets: tree tables, their layout, and sheet files.
+ * Copy sheets: tree tables, their layout, sheet files, and Newick text.
  *
  * A slice is a pointer and its count of entries. The pointer is aligned and not null even where
  * the count is 0, and no slice or result overlaps another.
@@ -27,6 +27,8 @@
  *   13  the slice of tape numbers is too short
  *   14  none of 1 to 5 holds, and some node is not reached from node 0: look for tapes that are
  *       copies of each other in a circle
+ *   15  the text is no Newick text of a tree
+ *   16  the tree of the text has more than 1024 nodes
  *
  * A function tries its conditions in the order in which it names them.
  */
@@ -87,6 +89,18 @@ uint16_t hiwenoka_read_sheet(const uint8_t *file, size_t file_len,
                              uint16_t *table, size_t table_len,
                              uint16_t *tapes, size_t tapes_len,
                              uint16_t *nodes, uint16_t *separation);
+
+/*
+ * Reads a Newick text: 0, or 15, 16, and then 7 if table or tapes has fewer than 2n entries. A
+ * subtree is a label, or "(", one or more subtrees parted by ",", ")" and a label; the text is one
+ * subtree and ";" and nothing else, at most 16384 bytes. A label is a decimal number from 0 to
+ * 4294967295 without needless leading zeros. Numbers the tree parent first, then the children's
+ * subtrees left to right. Writes n to nodes, the table to the first 2n entries of table, and each
+ * node's label, low word then high word, to the first 2n entries of tapes.
+ */
+uint16_t hiwenoka_read_newick(const uint8_t *text, size_t text_len,
+                              uint16_t *table, size_t table_len,
+                              uint16_t *tapes, size_t tapes_len, uint16_t *nodes);
 
 /*
  * Writes a sheet file: 0 to 5, 14; 6; 13 if tapes has fewer than 2n entries; 7 if out has fewer

@@ -2,6 +2,7 @@
 // its last parameters. `hiwenoka_list_sheet` alone has no number: it writes what is printed, and returns the number of bytes.
 ghost use Rattle.tree.specs.Operations.{CheckTable, Mirror, Renumber};
 ghost use Rattle.sheet.specs.Read.{SheetRead};
+ghost use Rattle.newick.specs.Read.{NewickRead};
 ghost use Rattle.rule.specs.Result.{Layout};
 ghost use Rattle.layout.specs.Operation.{slices, answer};
 ghost use Rattle.writer.specs.Write.{SheetWritten};
@@ -71,6 +72,20 @@ pub extern "C" fn hiwenoka_read_sheet(
     *nodes = sheet.nodes;
     *separation = sheet.separation;
     sheet.number
+}
+
+#[no_mangle]
+pub extern "C" fn hiwenoka_read_newick(
+    text: &[u8],
+    table: &mut [u16],
+    tapes: &mut [u16],
+    nodes: &mut u16,
+) -> u16
+    ensures { λ r. ⌜ NewickRead (now (text .entry)) (now (table .entry)) (now (tapes .entry)) (record { number = r; nodes = now (nodes .exit) }) (now (table .exit)) (now (tapes .exit)) ⌝ }
+{
+    let tree = newick::read_newick(text, table, tapes);
+    *nodes = tree.nodes;
+    tree.number
 }
 
 #[no_mangle]

@@ -3,13 +3,14 @@
 use mathlib.Core.Path.{_≡_, refl, sym, ap, ap₂, _∙_, subst}
 use mathlib.Core.Bool.{true, _&&_}
 use mathlib.Core.List.{List, [], _∷_, _++_}
-use Prim.Native.Nat.{ℕ, zero, suc, _+_}
+use Prim.Native.Nat.{ℕ, zero, suc, _+_, _≤_}
 use native.Mathlib.Nat.{zero-add, add-zero, suc-add}
 use native.Mathlib.Numerals.{add-one}
 use native.Mathlib.Omega.{arith}
 use lib.ListN.{length}
+use borrow.Author.Tests.{eqb-false}
 use Rattle.tree.specs.Numbers.{count, upTo}
-use Rattle.tree.specs.Table.{nodes}
+use Rattle.tree.specs.Table.{none, nodes}
 use Rattle.tree.specs.Forest.{Forest, nil, node, treeOf, size, preorder, entry, siblings}
 use Rattle.tree.specs.Levels.{Pair}
 use Rattle.tree.specs.Shape.{sameShape, corresponding}
@@ -69,27 +70,29 @@ corresponding-numberFrom k (node v f g) =
     ∙ ap (λ (j : ℕ). numberedFrom (k + 1) (preorder f) ++ numberedFrom (k + 1 + j) (preorder g)) (size-preorder f)
     ∙ sym (numberedFrom-append (k + 1) (preorder f) (preorder g)))
 
-pub numberFrom-numbers : (n : ℕ) (f : Forest) → Numbers n f → Numbers n (numberFrom 0 f)
-numberFrom-numbers n f N =
+-- a tree whose nodes hold whatever they hold, numbered from 0 on
+pub tree-numbers : (n v : ℕ) (f : Forest) → size (node v f nil) ≡ n → n ≤ 1024 → Numbers n (numberFrom 0 (node v f nil))
+tree-numbers n v f e few =
     record {
-      some = N .some;
-      few = N .few;
+      some = omega arith;
+      few = few;
       below = subst (Below n) order (below-upTo n);
       each = λ v h. ap (count v) (sym order) ∙ count-upTo n v h;
-      root = root f (N .root);
-      alone = alone f (N .alone);
+      root = refl;
+      alone = refl;
     }
   where
-    order : upTo n ≡ preorder (numberFrom 0 f)
-    order = run-upTo n ∙ ap (run 0) (sym (numbers-size n f N)) ∙ sym (preorder-numberFrom 0 f)
+    order : upTo n ≡ preorder (numberFrom 0 (node v f nil))
+    order = run-upTo n ∙ ap (run 0) (sym e) ∙ sym (preorder-numberFrom 0 (node v f nil))
 
-    root : (f : Forest) → entry f ≡ 0 → entry (numberFrom 0 f) ≡ 0
-    root nil e = e
-    root (node v f g) e = refl
-
-    alone : (f : Forest) → siblings f ≡ nil → siblings (numberFrom 0 f) ≡ nil
-    alone nil e = refl
-    alone (node v f g) e = ap (numberFrom (0 + 1 + size f)) e
+pub numberFrom-numbers : (n : ℕ) (f : Forest) → Numbers n f → Numbers n (numberFrom 0 f)
+numberFrom-numbers n f N = go f (N .root) (N .alone) (numbers-size n f N)
+  where
+    go : (f : Forest) → entry f ≡ 0 → siblings f ≡ nil → size f ≡ n → Numbers n (numberFrom 0 f)
+    go nil root alone e = absurd (eqb-false none 0 refl root)
+    go (node v below after) root alone e =
+        subst (λ (g : Forest). Numbers n (numberFrom 0 (node v below g))) (sym alone)
+        (tree-numbers n v below (ap (λ (g : Forest). size (node v below g)) (sym alone) ∙ e) (N .few))
 
 -- ---- the renumbered table
 

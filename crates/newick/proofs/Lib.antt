@@ -1,0 +1,9 @@
+pub mod Digits
+pub mod Shown
+pub mod Exact
+pub mod Counted
+pub mod LabelAt
+pub mod Stored
+pub mod Subtrees
+pub mod Linked
+pub mod Answer

@@ -1,0 +1,419 @@
+-- What stands where in a text that is known to be right. Assumes nothing.
+use mathlib.Core.Path.{_≡_, refl, sym, ap, _∙_, subst}
+use Prim.Native.Nat.{ℕ, zero, suc, _+_, _*_, _/_, _%_, _≤_, _<_}
+use native.Mathlib.Nat.{add-zero}
+use native.Mathlib.Omega.{arith}
+use mathlib.Core.Bool.{true, false, true≢false}
+use mathlib.Core.List.{List, [], _∷_, _++_, append-assoc, append-nil}
+use lib.ListN.{length, getD, set, drop, length-drop, length-append}
+use borrow.Author.Tests.{eqb-false}
+use lib.Seq.{sets, drop-drop, drop-append-seam, getD-drop}
+use Rattle.lines.specs.Decimal.{digit, decimal}
+use Rattle.lines.proofs.Decimal.{by-tens, decimal-small, decimal-large}
+use Rattle.tree.specs.Table.{none}
+use Rattle.tree.specs.Forest.{Forest, nil, node, size}
+use Rattle.newick.specs.Text.{opening, closing, comma, mostLabel, Labels, subtreeText, listText}
+use Rattle.newick.specs.Reading.{isDigit}
+use Rattle.newick.specs.Read.{mostNodes, words, tapesOf}
+use Rattle.newick.specs.Steps.{leading, labelAt, LabelHere, rowsFrom, Stands, Stops, Room, SubtreeHere, ListHere, RowsRead, SubtreeRead, ListRead}
+use Rattle.newick.specs.declared.rows.Reached.{Reached}
+use Rattle.newick.proofs.Digits.{is-digit}
+use Rattle.newick.proofs.LabelAt.{leading-here, label-here}
+use Rattle.newick.proofs.Stored.{rows-inner, tapes-inner, rows-leaf, tapes-leaf, rows-further, tapes-further}
+
+-- ---- a part of a text at a place
+
+module _ (text : List ℕ) (at : ℕ) where
+  at-within : (x : ℕ) (l : List ℕ) → drop at text ≡ x ∷ l → at < length text
+  at-within x l e = omega (arith, length-drop at text, ap length e)
+
+  at-byte : (x : ℕ) (l : List ℕ) → drop at text ≡ x ∷ l → getD text at 0 ≡ x
+  at-byte x l e = ap (λ (k : ℕ). getD text k 0) (sym (add-zero at)) ∙ sym (getD-drop at text 0 0) ∙ ap (λ (m : List ℕ). getD m 0 0) e
+
+  at-past : (part more : List ℕ) → drop at text ≡ part ++ more → drop (at + length part) text ≡ more
+  at-past part more e = sym (drop-drop (length part) at text) ∙ ap (drop (length part)) e ∙ drop-append-seam part more
+
+-- a number's first byte is a digit
+record Front (l : List ℕ) : Type 0 where
+  byte : ℕ
+  rest : List ℕ
+  front : l ≡ byte ∷ rest
+  is : isDigit byte ≡ true
+
+decimal-front : (v : ℕ) → Front (decimal v)
+decimal-front = by-tens (λ v. Front (decimal v)) small large
+  where
+    small : (v : ℕ) → v < 10 → Front (decimal v)
+    small v h = record { byte = digit v; rest = []; front = decimal-small v h; is = is-digit (digit v) (omega arith) (omega arith) }
+
+    large : (v : ℕ) → 10 ≤ v → Front (decimal (v / 10)) → Front (decimal v)
+    large v h before = record {
+      byte = before .byte;
+      rest = before .rest ++ digit (v % 10) ∷ [];
+      front = decimal-large v h ∙ ap (λ (l : List ℕ). l ++ digit (v % 10) ∷ []) (before .front);
+      is = before .is;
+    }
+
+-- ---- a label
+
+label-given : (text : List ℕ) (at v byte : ℕ) (more : List ℕ) → drop at text ≡ decimal v ++ byte ∷ more → isDigit byte ≡ false → v ≤ mostLabel
+    → LabelHere text at
+label-given text at v byte more here ends fits = record {
+  ends =
+      omega (
+        arith,
+        leading-here text at v byte more here ends,
+        at-within text (at + length (decimal v)) byte more (at-past text at (decimal v) (byte ∷ more) here),
+      );
+  fits = omega (arith, label-here text at v byte more here ends);
+}
+
+-- ---- a subtree: its list, and its label
+
+opening-ends : isDigit opening ≡ false
+unfolding isDigit
+opening-ends = refl
+
+closing-stops : Stops closing
+unfolding isDigit
+closing-stops = (refl, eqb-false closing comma refl)
+
+-- a forest that is not empty
+record IsNode (f : Forest) : Type 0 where
+  first : ℕ
+  inner : Forest
+  later : Forest
+  is : f ≡ node first inner later
+
+-- a bracket is open: the list, and the label behind it
+record Opened (text : List ℕ) (at v byte : ℕ) (more : List ℕ) (below : Forest) : Type 0 where
+  some : IsNode below
+  list : drop (at + 1) text ≡ listText below ++ closing ∷ (decimal v ++ byte ∷ more)
+  long : length (subtreeText v below (listText below)) ≡ 1 + length (listText below) + 1 + length (decimal v)
+
+module _ (text : List ℕ) (at v byte : ℕ) (more : List ℕ) where
+  abbrev Here : Forest → Type 0
+  Here below = drop at text ≡ subtreeText v below (listText below) ++ byte ∷ more
+
+  here-of : (below : Forest) → Stands text at (node v below nil) (byte ∷ more) → Here below
+  here-of below st = st .here ∙ ap (λ (l : List ℕ). l ++ byte ∷ more) (append-nil (subtreeText v below (listText below)))
+
+  here-within : (below : Forest) → Here below → at < length text
+  here-within nil e =
+      let d = decimal-front v in
+      at-within text at (d .byte) (d .rest ++ byte ∷ more) (e ∙ ap (λ (l : List ℕ). l ++ byte ∷ more) (d .front))
+  here-within (node w g h) e = at-within text at opening _ e
+
+  leaf : (below : Forest) → Here below → (getD text at 0 ≡ opening → ⊥) → below ≡ nil
+  leaf nil e n = refl
+  leaf (node w g h) e n = absurd (n (at-byte text at opening _ e))
+
+  opened : (below : Forest) → Here below → getD text at 0 ≡ opening → Opened text at v byte more below
+  opened nil e o =
+      let d = decimal-front v in
+      let b = at-byte text at (d .byte) (d .rest ++ byte ∷ more) (e ∙ ap (λ (l : List ℕ). l ++ byte ∷ more) (d .front)) in
+      absurd (true≢false (sym (d .is) ∙ ap isDigit (sym b ∙ o) ∙ opening-ends))
+  opened (node w g h) e o = record {
+    some = record { first = w; inner = g; later = h; is = refl };
+    list =
+        at-past text at (opening ∷ []) (listText (node w g h) ++ closing ∷ decimal v ++ byte ∷ more) e
+        ∙ append-assoc (listText (node w g h)) (closing ∷ decimal v) (byte ∷ more);
+    long = omega (arith, length-append (opening ∷ listText (node w g h)) (closing ∷ decimal v));
+  }
+
+  -- the label behind the list
+  label-behind : (below : Forest) → Opened text at v byte more below → drop (at + 1 + length (listText below) + 1) text ≡ decimal v ++ byte ∷ more
+  label-behind below o =
+      at-past text (at + 1 + length (listText below)) (closing ∷ []) (decimal v ++ byte ∷ more)
+      (at-past text (at + 1) (listText below) (closing ∷ (decimal v ++ byte ∷ more)) (o .list))
+
+  -- what reading the list gave
+  list-got : (below : Forest) → Opened text at v byte more below → Labels below → {k : ℕ} {table tapes table′ tapes′ : List ℕ} {r : Reached}
+      → ListRead text (at + 1) k table tapes r table′ tapes′ → RowsRead below (at + 1) k table tapes r table′ tapes′
+  list-got below o labels {k} {table} {tapes} {table′} {tapes′} {r} read =
+      subst (λ (f : Forest). RowsRead f (at + 1) k table tapes r table′ tapes′) (sym (o .some .is))
+      (read (o .some .first) (o .some .inner) (o .some .later) closing (decimal v ++ byte ∷ more)
+      (subst (λ (f : Forest). Stands text (at + 1) f (closing ∷ (decimal v ++ byte ∷ more))) (o .some .is) (record { here = o .list; labels = labels }))
+      closing-stops)
+
+-- ---- what `subtree` needs
+
+module _ {text : List ℕ} {at k : ℕ} {table tapes : List ℕ} (s : SubtreeHere text at k table tapes) where
+  abbrev here : drop at text ≡ subtreeText (s .root) (s .below) (listText (s .below)) ++ s .byte ∷ s .more
+  here = here-of text at (s .root) (s .byte) (s .more) (s .below) (s .stands)
+
+  pub subtree-within : at < length text
+  subtree-within = here-within text at (s .root) (s .byte) (s .more) (s .below) here
+
+  pub inner-list : getD text at 0 ≡ opening → (table′ : List ℕ) → length table′ ≡ length table → ListHere text (at + 1) (k + 1) table′ tapes
+  inner-list bracket table′ same =
+      let o = opened text at (s .root) (s .byte) (s .more) (s .below) here bracket in
+      record {
+        root = o .some .first;
+        below = o .some .inner;
+        after = o .some .later;
+        byte = closing;
+        more = decimal (s .root) ++ s .byte ∷ s .more;
+        stands =
+            subst (λ (f : Forest). Stands text (at + 1) f (closing ∷ (decimal (s .root) ++ s .byte ∷ s .more))) (o .some .is)
+            (record { here = o .list; labels = s .stands .labels .1 .0 });
+        stops = closing-stops;
+        room =
+            subst (λ (f : Forest). Room (k + 1) f table′ tapes) (o .some .is)
+            (record { few = omega (arith, s .room .few); in-table = omega (arith, same, s .room .in-table); in-tapes = omega (arith, s .room .in-tapes) });
+      }
+
+  pub inner-label : getD text at 0 ≡ opening → {table′ tapes′ table″ tapes″ : List ℕ} {r : Reached}
+      → ListRead text (at + 1) (k + 1) table′ tapes′ r table″ tapes″ → LabelHere text (r .at + 1)
+  inner-label bracket read =
+      let o = opened text at (s .root) (s .byte) (s .more) (s .below) here bracket in
+      let got = list-got text at (s .root) (s .byte) (s .more) (s .below) o (s .stands .labels .1 .0) read in
+      subst (λ (i : ℕ). LabelHere text (i + 1)) (sym (got .place))
+      (label-given text (at + 1 + length (listText (s .below)) + 1) (s .root) (s .byte) (s .more)
+      (label-behind text at (s .root) (s .byte) (s .more) (s .below) o) (s .ends) (s .stands .labels .0))
+
+  pub leaf-label : (getD text at 0 ≡ opening → ⊥) → LabelHere text at
+  leaf-label other =
+      let e = leaf text at (s .root) (s .byte) (s .more) (s .below) here other in
+      label-given text at (s .root) (s .byte) (s .more)
+      (here ∙ ap (λ (f : Forest). subtreeText (s .root) f (listText f) ++ s .byte ∷ s .more) e)
+      (s .ends) (s .stands .labels .0)
+
+-- ---- what `subtree` gives
+
+module _ {text : List ℕ} {at k : ℕ} {table tapes : List ℕ} where
+  pub inner-read : getD text at 0 ≡ opening → {table₁ table₂ tapes₂ tapes₃ : List ℕ} {r : Reached} {end : ℕ}
+      → table₁ ≡ sets table (2 * k) ((k + 1) ∷ none ∷ [])
+      → ListRead text (at + 1) (k + 1) table₁ tapes r table₂ tapes₂
+      → end ≡ r .at + 1 + leading (drop (r .at + 1) text)
+      → tapes₃ ≡ sets tapes₂ (2 * k) (words (labelAt text (r .at + 1)))
+      → SubtreeRead text at k table tapes (record { at = end; node = r .node }) table₂ tapes₃
+  inner-read bracket {tapes₂ = tapes₂} {r = r} row read ends label = λ v below byte more st stop.
+      let o = opened text at v byte more below (here-of text at v byte more below st) bracket in
+      let got = list-got text at v byte more below o (st .labels .1 .0) read in
+      let behind : drop (r .at + 1) text ≡ decimal v ++ byte ∷ more =
+      ap (λ (i : ℕ). drop (i + 1) text) (got .place) ∙ label-behind text at v byte more below o in
+      record {
+        place =
+            omega (
+              arith,
+              ends,
+              got .place,
+              leading-here text (r .at + 1) v byte more behind stop,
+              o .long,
+              ap length (append-nil (subtreeText v below (listText below))),
+            );
+        next = omega (arith, got .next);
+        table-after =
+            got .table-after ∙ ap (λ (t : List ℕ). sets t (2 * (k + 1)) (rowsFrom (k + 1) below)) row
+            ∙ rows-inner k v below table (o .some .first) (o .some .inner) (o .some .later) (o .some .is);
+        tapes-after =
+            label
+            ∙ ap (λ (x : ℕ). sets tapes₂ (2 * k) (words x)) (label-here text (r .at + 1) v byte more behind stop)
+            ∙ ap (λ (t : List ℕ). sets t (2 * k) (words v)) (got .tapes-after)
+            ∙ tapes-inner k v below tapes;
+      }
+
+  pub leaf-read : (getD text at 0 ≡ opening → ⊥) → {table₁ tapes₁ : List ℕ} {end : ℕ}
+      → table₁ ≡ sets table (2 * k) (none ∷ none ∷ [])
+      → end ≡ at + leading (drop at text)
+      → tapes₁ ≡ sets tapes (2 * k) (words (labelAt text at))
+      → SubtreeRead text at k table tapes (record { at = end; node = k + 1 }) table₁ tapes₁
+  leaf-read other row ends label = λ v below byte more st stop.
+      let e = leaf text at v byte more below (here-of text at v byte more below st) other in
+      let here : drop at text ≡ decimal v ++ byte ∷ more =
+      here-of text at v byte more below st ∙ ap (λ (f : Forest). subtreeText v f (listText f) ++ byte ∷ more) e in
+      record {
+        place =
+            omega (
+              arith,
+              ends,
+              leading-here text at v byte more here stop,
+              ap length (append-nil (subtreeText v below (listText below))),
+              ap (λ (f : Forest). length (subtreeText v f (listText f))) e,
+            );
+        next = omega (arith, ap size e);
+        table-after = row ∙ rows-leaf k v below table e;
+        tapes-after = label ∙ ap (λ (x : ℕ). sets tapes (2 * k) (words x)) (label-here text at v byte more here stop) ∙ tapes-leaf k v below tapes e;
+      }
+
+-- ---- what comes after a list's first subtree, where the list ends with a byte and `more`
+
+byteAfter : ℕ → Forest → ℕ
+byteAfter byte nil = byte
+byteAfter byte (node w g h) = comma
+
+restAfter : ℕ → List ℕ → Forest → List ℕ
+restAfter byte more nil = more
+restAfter byte more (node w g h) = listText (node w g h) ++ byte ∷ more
+
+after-ends : (byte : ℕ) → Stops byte → (after : Forest) → isDigit (byteAfter byte after) ≡ false
+unfolding byteAfter isDigit
+after-ends byte stops nil = stops .0
+after-ends byte stops (node w g h) = refl
+
+-- a comma comes before some further subtree
+comma-some : (byte : ℕ) → Stops byte → (after : Forest) → byteAfter byte after ≡ comma → IsNode after
+unfolding byteAfter
+comma-some byte stops nil e = absurd (stops .1 e)
+comma-some byte stops (node w g h) e = record { first = w; inner = g; later = h; is = refl }
+
+first-stands : (text : List ℕ) (at v byte : ℕ) (below : Forest) (more : List ℕ) (after : Forest) → Stands text at (node v below after) (byte ∷ more)
+    → Stands text at (node v below nil) (byteAfter byte after ∷ restAfter byte more after)
+unfolding byteAfter restAfter
+first-stands text at v byte below more nil st = st
+first-stands text at v byte below more (node w g h) st = record {
+  here =
+      st .here
+      ∙ append-assoc (subtreeText v below (listText below)) (comma ∷ listText (node w g h)) (byte ∷ more)
+      ∙ ap (λ (l : List ℕ). l ++ comma ∷ (listText (node w g h) ++ byte ∷ more)) (sym (append-nil (subtreeText v below (listText below))));
+  labels = (st .labels .0, (st .labels .1 .0, tt));
+}
+
+module _ {text : List ℕ} {at k : ℕ} {table tapes table₁ tapes₁ : List ℕ} {r : Reached} (read : SubtreeRead text at k table tapes r table₁ tapes₁)
+    (v : ℕ) (below after : Forest) (byte : ℕ) (more : List ℕ) (st : Stands text at (node v below after) (byte ∷ more)) (stops : Stops byte) where
+  -- what reading the first subtree gave
+  first-got : RowsRead (node v below nil) at k table tapes r table₁ tapes₁
+  first-got =
+      read v below (byteAfter byte after) (restAfter byte more after) (first-stands text at v byte below more after st) (after-ends byte stops after)
+
+  -- and the text behind it
+  behind-first : drop (r .at) text ≡ byteAfter byte after ∷ restAfter byte more after
+  behind-first =
+      ap (λ (i : ℕ). drop i text) (first-got .place)
+      ∙ at-past text at (listText (node v below nil)) (byteAfter byte after ∷ restAfter byte more after) (first-stands text at v byte below more after st .here)
+
+  -- its first byte, where a comma parts it from further subtrees
+  byte-behind : getD text (r .at) 0 ≡ byteAfter byte after
+  byte-behind = at-byte text (r .at) (byteAfter byte after) (restAfter byte more after) behind-first
+
+  further-stands : (w : ℕ) (g h : Forest) → after ≡ node w g h → Stands text (r .at + 1) (node w g h) (byte ∷ more)
+  unfolding restAfter
+  further-stands w g h e = record {
+    here = at-past text (r .at) (byteAfter byte after ∷ []) (restAfter byte more after) behind-first ∙ ap (restAfter byte more) e;
+    labels = subst Labels e (st .labels .1 .1);
+  }
+
+-- ---- what `list` needs
+
+module _ {text : List ℕ} {at k : ℕ} {table tapes : List ℕ} (s : ListHere text at k table tapes) where
+  pub first-here : SubtreeHere text at k table tapes
+  first-here = record {
+    root = s .root;
+    below = s .below;
+    byte = byteAfter (s .byte) (s .after);
+    more = restAfter (s .byte) (s .more) (s .after);
+    stands = first-stands text at (s .root) (s .byte) (s .below) (s .more) (s .after) (s .stands);
+    ends = after-ends (s .byte) (s .stops) (s .after);
+    room = record { few = omega (arith, s .room .few); in-table = omega (arith, s .room .in-table); in-tapes = omega (arith, s .room .in-tapes) };
+  }
+
+  module _ {table₁ tapes₁ : List ℕ} {r : Reached} (read : SubtreeRead text at k table tapes r table₁ tapes₁) where
+    first : RowsRead (node (s .root) (s .below) nil) at k table tapes r table₁ tapes₁
+    first = first-got read (s .root) (s .below) (s .after) (s .byte) (s .more) (s .stands) (s .stops)
+
+    pub behind-within : r .at < length text
+    behind-within =
+        at-within text (r .at) (byteAfter (s .byte) (s .after)) (restAfter (s .byte) (s .more) (s .after))
+        (behind-first read (s .root) (s .below) (s .after) (s .byte) (s .more) (s .stands) (s .stops))
+
+    pub next-few : r .node ≤ mostNodes
+    next-few = omega (arith, first .next, s .room .few)
+
+    pub not-back : at ≤ r .at
+    not-back = omega (arith, first .place)
+
+    pub further-here : getD text (r .at) 0 ≡ comma → (table₂ : List ℕ) → length table₂ ≡ length table → length tapes₁ ≡ length tapes
+        → ListHere text (r .at + 1) (r .node) table₂ tapes₁
+    further-here parts table₂ same same′ =
+        let n = comma-some (s .byte) (s .stops) (s .after)
+        (sym (byte-behind read (s .root) (s .below) (s .after) (s .byte) (s .more) (s .stands) (s .stops)) ∙ parts) in
+        record {
+          root = n .first;
+          below = n .inner;
+          after = n .later;
+          byte = s .byte;
+          more = s .more;
+          stands = further-stands read (s .root) (s .below) (s .after) (s .byte) (s .more) (s .stands) (s .stops) (n .first) (n .inner) (n .later) (n .is);
+          stops = s .stops;
+          room =
+              subst (λ (f : Forest). Room (r .node) f table₂ tapes₁) (n .is)
+              (record {
+                few = omega (arith, first .next, s .room .few);
+                in-table = omega (arith, first .next, same, s .room .in-table);
+                in-tapes = omega (arith, first .next, same′, s .room .in-tapes);
+              });
+        }
+
+-- ---- what `list` gives
+
+module _ {text : List ℕ} {at k : ℕ} {table tapes table₁ tapes₁ : List ℕ} {r : Reached} (read : SubtreeRead text at k table tapes r table₁ tapes₁) where
+  pub list-last : (getD text (r .at) 0 ≡ comma → ⊥) → ListRead text at k table tapes r table₁ tapes₁
+  unfolding byteAfter
+  list-last other = go
+    where
+      go : (v : ℕ) (below after : Forest) (byte : ℕ) (more : List ℕ) → Stands text at (node v below after) (byte ∷ more) → Stops byte
+          → RowsRead (node v below after) at k table tapes r table₁ tapes₁
+      go v below nil byte more st stops = first-got read v below nil byte more st stops
+      go v below (node w g h) byte more st stops = absurd (other (byte-behind read v below (node w g h) byte more st stops))
+
+  pub list-further : getD text (r .at) 0 ≡ comma → {table₂ table₃ tapes₃ : List ℕ} {s : Reached}
+      → table₂ ≡ set table₁ (2 * k + 1) (r .node)
+      → ListRead text (r .at + 1) (r .node) table₂ tapes₁ s table₃ tapes₃
+      → ListRead text at k table tapes s table₃ tapes₃
+  unfolding byteAfter
+  list-further parts {table₂} {table₃} {tapes₃} {s} sibling rest = go
+    where
+      go : (v : ℕ) (below after : Forest) (byte : ℕ) (more : List ℕ) → Stands text at (node v below after) (byte ∷ more) → Stops byte
+          → RowsRead (node v below after) at k table tapes s table₃ tapes₃
+      go v below nil byte more st stops = absurd (stops .1 (sym (byte-behind read v below nil byte more st stops) ∙ parts))
+      go v below (node w g h) byte more st stops =
+          let first = first-got read v below (node w g h) byte more st stops in
+          let got = rest w g h byte more (further-stands read v below (node w g h) byte more st stops w g h refl) stops in
+          record {
+            place =
+                omega (
+                  arith,
+                  first .place,
+                  got .place,
+                  length-append (subtreeText v below (listText below)) (comma ∷ listText (node w g h)),
+                  length-append (subtreeText v below (listText below)) [],
+                );
+            next = omega (arith, first .next, got .next);
+            table-after =
+                got .table-after
+                ∙ ap (λ (t : List ℕ). sets t (2 * r .node) (rowsFrom (r .node) (node w g h)))
+                (sibling ∙ ap (λ (t : List ℕ). set t (2 * k + 1) (r .node)) (first .table-after))
+                ∙ rows-further k v below table w g h (r .node) (first .next);
+            tapes-after =
+                got .tapes-after
+                ∙ ap (λ (t : List ℕ). sets t (2 * r .node) (tapesOf (node w g h))) (first .tapes-after)
+                ∙ tapes-further k v below tapes (node w g h) (r .node) (first .next);
+          }
+
+-- ---- the loop of `list`
+
+-- a list stands at `start`, and whatever reads it reads the list that stands at `at`
+pub record Turn (text : List ℕ) (at k : ℕ) (table₀ tapes₀ table tapes : List ℕ) (start root : ℕ) : Type 0 where
+  pub here : ListHere text start root table tapes
+  pub forward : at ≤ start
+  pub same-table : length table ≡ length table₀
+  pub same-tapes : length tapes ≡ length tapes₀
+  pub rest : {r : Reached} {table′ tapes′ : List ℕ} → ListRead text start root table tapes r table′ tapes′ → ListRead text at k table₀ tapes₀ r table′ tapes′
+
+pub first-turn : {text : List ℕ} {at k : ℕ} {table tapes : List ℕ} → ListHere text at k table tapes → Turn text at k table tapes table tapes at k
+first-turn s = record { here = s; forward = omega arith; same-table = refl; same-tapes = refl; rest = λ read. read }
+
+pub next-turn : {text : List ℕ} {at k : ℕ} {table₀ tapes₀ table tapes table₁ tapes₁ table₂ : List ℕ} {start root : ℕ} {r : Reached}
+    → Turn text at k table₀ tapes₀ table tapes start root
+    → SubtreeRead text start root table tapes r table₁ tapes₁
+    → length table₂ ≡ length table → length tapes₁ ≡ length tapes
+    → getD text (r .at) 0 ≡ comma → table₂ ≡ set table₁ (2 * root + 1) (r .node)
+    → Turn text at k table₀ tapes₀ table₂ tapes₁ (r .at + 1) (r .node)
+next-turn {table₂ = table₂} turn read same same′ parts sibling = record {
+  here = further-here (turn .here) read parts table₂ same same′;
+  forward = omega (arith, turn .forward, not-back (turn .here) read);
+  same-table = same ∙ turn .same-table;
+  same-tapes = same′ ∙ turn .same-tapes;
+  rest = λ rest. turn .rest (list-further read parts sibling rest);
+}
