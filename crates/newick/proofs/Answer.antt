@@ -10,13 +10,13 @@ use borrow.Author.Tests.{eqb-false, eq-eqb, ne-eqb, lt-ltb, le-ltb}
 use Rattle.refusal.specs.After.{granted, after, overwrite}
 use Rattle.refusal.proofs.After.{granted-accepted, granted-refused, after-accepted, after-refused, sets-start}
 use Rattle.tree.specs.Forest.{Forest, nil, node, size}
-use Rattle.newick.specs.Text.{comma, semicolon, Labels, subtreeText, listText}
+use Rattle.newick.specs.Text.{comma, semicolon, Labels, subtreeText, listText, IsText}
 use Rattle.newick.specs.Reading.{isDigit, treeRead}
 use Rattle.newick.specs.Read.{mostBytes, mostNodes, nodesOf, linksOf, tapesOf, refusal, NewickRead}
 use Rattle.newick.specs.Steps.{rowsFrom, Stands, Stops, Room, ListHere, RowsRead, ListRead}
 use Rattle.newick.specs.declared.Newick.{Newick}
 use Rattle.newick.specs.declared.rows.Reached.{Reached}
-use Rattle.newick.proofs.Shown.{IsText, read-text}
+use Rattle.newick.proofs.Shown.{read-text}
 use Rattle.newick.proofs.Stored.{length-rows, length-tapes}
 use Rattle.newick.proofs.Linked.{rows-links}
 

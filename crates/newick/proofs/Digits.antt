@@ -19,10 +19,6 @@ pub below-digits : (byte : ℕ) → byte < zeroByte → isDigit byte ≡ false
 unfolding isDigit
 below-digits byte h = simp (lt-leb zeroByte byte h)
 
-pub above-digits : (byte : ℕ) → digit 9 < byte → isDigit byte ≡ false
-unfolding isDigit
-above-digits byte h = simp (le-leb zeroByte byte (omega arith), lt-leb byte (digit 9) h)
-
 pub digit-low : (byte : ℕ) → isDigit byte ≡ true → zeroByte ≤ byte
 unfolding isDigit
 digit-low byte h = leb-true zeroByte byte (and-left (leb zeroByte byte) (leb byte (digit 9)) h)

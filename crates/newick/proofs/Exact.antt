@@ -1,5 +1,5 @@
 -- A tree's text is read to the tree. With what `Shown` proves, just the texts of trees are read, each in a single way. Assumes nothing.
-use mathlib.Core.Path.{_≡_, refl, sym, ap, _∙_}
+use mathlib.Core.Path.{_≡_, refl, sym, ap, _∙_, subst}
 use Prim.Native.Nat.{ℕ, _+_, _-_, _*_, _/_, _%_, _≤_, _<_}
 use native.Mathlib.Omega.{arith}
 use mathlib.Core.Bool.{true}
@@ -10,7 +10,7 @@ use Rattle.lines.specs.Decimal.{zeroByte, digit, decimal}
 use Rattle.lines.proofs.Decimal.{by-tens, decimal-small, decimal-large}
 use Rattle.tree.specs.Forest.{Forest, nil, node, join}
 use Rattle.tree.proofs.Joined.{join-assoc}
-use Rattle.newick.specs.Text.{opening, closing, comma, semicolon, mostLabel, Labels, subtreeText, listText, newick}
+use Rattle.newick.specs.Text.{opening, closing, comma, semicolon, mostLabel, Labels, subtreeText, listText, IsText}
 use Rattle.newick.specs.Reading.{Reading, due, closed, label, ended, isDigit, next, reading, whole, treeRead}
 use Rattle.newick.proofs.Digits.{is-digit, digit-low}
 
@@ -103,10 +103,14 @@ list-read (node v below (node w f g)) l =
 -- ---- the tree of a text
 
 -- a tree's text is read to the tree
-pub text-read : (v : ℕ) (below : Forest) → Labels (node v below nil) → treeRead (newick v below) ≡ node v below nil
+pub text-read : (tree : Forest) (text : List ℕ) → IsText tree text → treeRead text ≡ tree
 unfolding treeRead reading next isDigit
-text-read v below l = ap whole (subtree-then v below (l .0) (list-read below (l .1 .0)) [] (semicolon ∷ []))
+text-read tree text t =
+    let l = subst Labels (t .is-tree) (t .labels) in
+    ap treeRead (t .is-text)
+    ∙ ap whole (subtree-then (t .root) (t .below) (l .0) (list-read (t .below) (l .1 .0)) [] (semicolon ∷ []))
+    ∙ sym (t .is-tree)
 
--- no two trees have one text
-pub text-unique : (v w : ℕ) (f g : Forest) → Labels (node v f nil) → Labels (node w g nil) → newick v f ≡ newick w g → node v f nil ≡ node w g nil
-text-unique v w f g l m same = sym (text-read v f l) ∙ ap treeRead same ∙ text-read w g m
+-- no text is that of two trees
+pub one-tree : (a b : Forest) (text : List ℕ) → IsText a text → IsText b text → a ≡ b
+one-tree a b text t u = sym (text-read a text t) ∙ text-read b text u

@@ -7,3 +7,5 @@ pub mod Stored
 pub mod Subtrees
 pub mod Linked
 pub mod Answer
+pub mod Numbers
+pub mod Example

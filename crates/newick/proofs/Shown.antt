@@ -10,7 +10,7 @@ use borrow.Author.Tests.{eqb-true, eqb-false, leb-true}
 use Rattle.lines.specs.Decimal.{zeroByte, digit, decimal}
 use Rattle.tree.specs.Forest.{Forest, nil, node, join}
 use Rattle.tree.proofs.Counting.{All}
-use Rattle.newick.specs.Text.{opening, closing, comma, semicolon, mostLabel, Labels, subtreeText, further, listText, newick}
+use Rattle.newick.specs.Text.{opening, closing, comma, semicolon, mostLabel, Labels, subtreeText, further, listText, newick, IsText}
 use Rattle.newick.specs.Reading.{Reading, due, closed, label, ended, broken, isDigit, begun, lengthened, parted, next, reading, whole, treeRead}
 use Rattle.newick.proofs.Digits.{digit-low, digit-high, decimal-byte, decimal-more}
 
@@ -35,14 +35,7 @@ before (row ∷ rows) = before rows ++ opening ∷ ended-each row
 abbrev up-to-label : List Forest → Forest → List ℕ
 up-to-label rows below = before rows ++ bracketed below (listText below)
 
--- a tree with its text
-pub record IsText (tree : Forest) (text : List ℕ) : Type 0 where
-  pub root : ℕ
-  pub below : Forest
-  pub is-tree : tree ≡ node root below nil
-  pub is-text : text ≡ newick root below
-  pub labels : Labels tree
-
+-- a reading shows the bytes that were read
 abbrev Shows : Reading → List ℕ → Type 0
 Shows (due rows) text = (text ≡ before rows) × All Labels rows
 Shows (closed rows below) text = (text ≡ up-to-label rows below) × (All Labels rows × Labels below)

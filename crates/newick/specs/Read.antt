@@ -1,6 +1,7 @@
 -- Reading Newick text: the conditions 15, 16 and 7, what is accepted, and what the operation promises.
-use Prim.Native.Nat.{ℕ, _*_, _/_, _%_}
+use Prim.Native.Nat.{ℕ, _*_, _/_, _%_, _≤_, _<_}
 use mathlib.Core.Path.{_≡_}
+use mathlib.Core.Logic.{_⊎_}
 use mathlib.Core.Bool.{Bool, _||_}
 use mathlib.Core.List.{List, [], _∷_}
 use lib.Dec.{eqb, ltb}
@@ -10,6 +11,7 @@ use Rattle.refusal.specs.After.{granted, after}
 use Rattle.tree.specs.Numbers.{flatMap}
 use Rattle.tree.specs.Forest.{Forest, size, preorder, tableOf}
 use Rattle.tree.specs.Operations.{numberFrom}
+use Rattle.newick.specs.Text.{IsText}
 use Rattle.newick.specs.Reading.{treeRead}
 use Rattle.newick.specs.declared.Newick.{Newick}
 
@@ -50,6 +52,19 @@ conditions text tableLength tapesLength =
 -- the number that reading gives, from the text and the slices' lengths
 unfoldable pub refusal : List ℕ → ℕ → ℕ → ℕ
 refusal text tableLength tapesLength = first (conditions text tableLength tapesLength)
+
+-- what each number says of a text
+pub data Says (text : List ℕ) (tableLength tapesLength : ℕ) : ℕ → Type 0 where
+  -- 15: it is too long, or the text of no tree
+  no-text : ((tree : Forest) → IsText tree text → length text ≤ mostBytes → ⊥) → Says text tableLength tapesLength 15
+  -- 16: it is the text of a tree that is too large
+  too-large : (tree : Forest) → IsText tree text → length text ≤ mostBytes → mostNodes < size tree → Says text tableLength tapesLength 16
+  -- 7: a slice is too short for the tree whose text it is
+  too-short : (tree : Forest) → IsText tree text → length text ≤ mostBytes → size tree ≤ mostNodes
+      → (tableLength < 2 * size tree) ⊎ (tapesLength < 2 * size tree) → Says text tableLength tapesLength 7
+  -- 0: it is the text of a tree, and the slices are long enough
+  taken : (tree : Forest) → IsText tree text → length text ≤ mostBytes → size tree ≤ mostNodes
+      → 2 * size tree ≤ tableLength → 2 * size tree ≤ tapesLength → Says text tableLength tapesLength 0
 
 -- what `read_newick` promises of its answer and of both slices afterwards
 pub record NewickRead (text table tapes : List ℕ) (answer : Newick) (table′ tapes′ : List ℕ) : Type 0 where

@@ -1,6 +1,7 @@
 -- The Newick text of a labelled tree. A node of the forest is its label, a tape number. A subtree is a label, or an opening bracket, one
 -- or more subtrees parted by commas, a closing bracket and a label. The text is one subtree and a semicolon.
 use Prim.Native.Nat.{ℕ, _≤_}
+use mathlib.Core.Path.{_≡_}
 use mathlib.Core.List.{List, [], _∷_, _++_}
 use Rattle.lines.specs.Decimal.{decimal}
 use Rattle.tree.specs.Forest.{Forest, nil, node}
@@ -44,3 +45,11 @@ listText (node label below after) = subtreeText label below (listText below) ++ 
 -- the text of the tree whose root has this label, over the subtrees of its children
 abbrev pub newick : ℕ → Forest → List ℕ
 newick label below = subtreeText label below (listText below) ++ semicolon ∷ []
+
+-- a labelled tree, and its text
+pub record IsText (tree : Forest) (text : List ℕ) : Type 0 where
+  pub root : ℕ
+  pub below : Forest
+  pub is-tree : tree ≡ node root below nil
+  pub is-text : text ≡ newick root below
+  pub labels : Labels tree

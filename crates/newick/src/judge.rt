@@ -4,6 +4,9 @@ ghost use Prim.Native.Nat.{_≤_};
 ghost use lib.ListN.{length};
 ghost use Rattle.newick.specs.Read.{mostBytes, nodesOf};
 ghost use Rattle.newick.specs.Steps.{begun, lengthened, parted, step, counted, Within};
+use super::label::is_digit;
+
+const MOST_LABEL: u64 = 4294967295;
 
 // What the bytes so far leave: how many brackets are open, how many labels have begun, and what may come next.
 pub enum Scan {
@@ -36,17 +39,14 @@ fn begun(depth: usize, nodes: usize, byte: u8) -> Scan
     requires { ⌜ nodes ≤ mostBytes ⌝ }
     ensures { λ r. ⌜ r ≡ begun depth nodes byte ⌝ }
 {
-    if byte < b'0' {
-        return Scan::Broken;
+    if is_digit(byte) {
+        return Scan::Label {
+            depth,
+            nodes: nodes + 1,
+            value: (byte - b'0') as u32,
+        };
     }
-    if byte > b'9' {
-        return Scan::Broken;
-    }
-    Scan::Label {
-        depth,
-        nodes: nodes + 1,
-        value: (byte - b'0') as u32,
-    }
+    Scan::Broken
 }
 
 // A label has one more digit.
@@ -57,7 +57,7 @@ fn lengthened(depth: usize, nodes: usize, value: u32, digit: u8) -> Scan
         return Scan::Broken;
     }
     let longer = 10 * value as u64 + digit as u64;
-    if longer > 4294967295 {
+    if longer > MOST_LABEL {
         return Scan::Broken;
     }
     Scan::Label {
@@ -110,13 +110,10 @@ fn step(scan: Scan, byte: u8) -> Scan
             nodes,
             value,
         } => {
-            if byte < b'0' {
-                return parted(depth, nodes, byte);
+            if is_digit(byte) {
+                return lengthened(depth, nodes, value, byte - b'0');
             }
-            if byte > b'9' {
-                return parted(depth, nodes, byte);
-            }
-            lengthened(depth, nodes, value, byte - b'0')
+            parted(depth, nodes, byte)
         }
         Scan::Ended { nodes: _ } => Scan::Broken,
         Scan::Broken => Scan::Broken,

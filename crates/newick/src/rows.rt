@@ -30,8 +30,9 @@ pub fn subtree(text: &[u8], at: usize, node: usize, table: &mut [u16], tapes: &m
 {
     let byte = text[at];
     if byte == b'(' {
-        store_pair(table, node, (node + 1) as u16, NONE);
-        let inner = list(text, at + 1, node + 1, table, tapes);
+        let child = node + 1;
+        store_pair(table, node, child as u16, NONE);
+        let inner = list(text, at + 1, child, table, tapes);
         let end = read_label(text, inner.at + 1, node, tapes);
         Reached {
             at: end,

@@ -1,23 +1,27 @@
--- A byte where a label is due: the reading or a broken text, by the byte's range. Assumes nothing.
+-- A byte where a label is due. Assumes nothing.
+use mathlib.Core.Path.{sym, _∙_}
 use borrow.Author.Needs.{needs}
-use Rattle.newick.proofs.Digits.{is-digit, below-digits, above-digits}
+use Rattle.newick.proofs.Digits.{digit-low}
 use Rattle.newick.proofs.judge.begun.Statement.{statement}
 use Rattle.newick.proofs.judge.begun.Tie as tie
 
-returns : tie.Need-returns
-returns c = simp (below-digits _ (c .if1 .taken))
-
-returns-2 : tie.Need-returns-2
-returns-2 c = simp (above-digits _ (c .if2 .taken))
+is-digit-requires : tie.Need-is-digit-requires
+is-digit-requires c κs = search needs
 
 add-t5 : tie.Need-add-t5
 add-t5 c = search needs
 
+sub-t6 : tie.Need-sub-t6
+sub-t6 c = digit-low _ (sym (c .before .is-digit .ensures) ∙ c .if1 .taken)
+
 cast-t7 : tie.Need-cast-t7
 cast-t7 c = search needs
 
-returns-3 : tie.Need-returns-3
-returns-3 c = simp (is-digit _ (c .before .if1 .left) (c .if2 .left))
+returns : tie.Need-returns
+returns c = simp (sym (c .before .is-digit .ensures) ∙ c .if1 .taken)
+
+returns-2 : tie.Need-returns-2
+returns-2 c = simp (sym (c .before .is-digit .ensures) ∙ c .if1 .left)
 
 pub begun-spec : {M : Type 1} → statement M
-begun-spec = tie.close (tie.spec returns returns-2 add-t5 cast-t7 returns-3)
+begun-spec = tie.close (tie.spec is-digit-requires add-t5 sub-t6 cast-t7 returns returns-2)
