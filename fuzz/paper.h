@@ -1,5 +1,5 @@
-/* What the paper says of a table, a drawing and a sheet file, computed plainly and from the paper
-   alone. */
+/* What the paper says of a table, a drawing, a sheet file and a Newick text, computed plainly and
+   from the paper alone. */
 
 #ifndef PAPER_H
 #define PAPER_H
@@ -15,6 +15,15 @@ unsigned sheet_number(const uint8_t *file, size_t bytes, size_t table_len, size_
 /* The first of 1 to 5, 14, 6, 13 and 7 that holds of a sheet to be written, or 0. */
 unsigned write_number(const uint16_t *table, size_t len, uint16_t separation, size_t tapes_len,
                       size_t out_len);
+
+struct family {
+    size_t nodes; /* or 0 if the text is no tree */
+    uint16_t table[2 * MOST_NODES], labels[2 * MOST_NODES];
+};
+
+/* The tree of a Newick text, numbered parent first, then the children's subtrees right to left; of
+   its nodes only the first MOST_NODES. */
+void read_text(const uint8_t *text, size_t bytes, struct family *family);
 
 /* The nodes of a well-formed table, parent first, then the children's subtrees left to right. */
 void number_parents_first(const uint16_t *table, uint16_t *order);

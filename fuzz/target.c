@@ -2,14 +2,15 @@
  * Takes an input as one call of the library, makes the call on slices of exactly their lengths
  * beside pages that cannot be accessed, and holds all that came of it against the paper. An input:
  *
- *     byte 0         the operation, modulo 7
+ *     byte 0         the operation, modulo 8
  *     byte 1         what is done to the rest, see the bits below
  *     bytes 2, 3     the separation, low byte first, as are all words
- *     bytes 4 to 7   for each slice besides the table or file, how many entries more than needed,
- *                    signed
+ *     bytes 4 to 7   for each slice besides the table, file or text, how many entries more than
+ *                    needed, signed
  *     bytes 8 to 11  where a damage goes, and its word
- *     the rest       a table's words, or a file's bytes; or, with TREE, one byte for each node
- *                    after the root, which says how far it hangs above the node before it
+ *     the rest       a table's words, or the bytes of a file or a Newick text; or, with TREE, one
+ *                    byte for each node after the root, which says how far it hangs above the node
+ *                    before it
  */
 
 #include "hiwenoka.h"
@@ -20,9 +21,9 @@
 #include <string.h>
 
 enum {
-    TREE = 1,         /* the rest is a well-formed tree, and a file is the sheet of that tree */
+    TREE = 1,         /* the rest is a well-formed tree, and a file or a text is of that tree */
     TURNED = 2,       /* the tree's nodes but the root are numbered from the last */
-    DAMAGED = 4,      /* an entry, or a word of the file, is replaced */
+    DAMAGED = 4,      /* an entry, a word of the file, or a byte of the text is replaced */
     CLOSED = 8,       /* then every block's sum is made zero */
     AFTER_GUARD = 16, /* the slices start after a guarded page, and do not end at one */
     CUT = 32,         /* before any damage, a part of the tree is cut off as a stray */
@@ -124,6 +125,22 @@ static size_t file_of(const struct input *input, uint8_t *file)
     return bytes;
 }
 
+static size_t text_of(const struct input *input, uint8_t *text)
+{
+    size_t bytes = at_most(input->rest_len, MOST_TEXT + 1);
+    if (input->bits & TREE) {
+        uint16_t table[2 * MOST_NODES + 2], labels[2 * MOST_NODES + 2];
+        make_labels(labels, tree_of(input, table) / 2);
+        bytes = make_text(text, table, labels);
+    } else {
+        memcpy(text, input->rest, bytes);
+    }
+    if ((input->bits & DAMAGED) && bytes > 0) {
+        text[input->index % bytes] = (uint8_t)input->word;
+    }
+    return bytes;
+}
+
 /* The table of the tree whose nodes have their children in reverse order. */
 static void mirror_plainly(const uint16_t *table, size_t len, uint16_t *mirrored)
 {
@@ -133,6 +150,21 @@ static void mirror_plainly(const uint16_t *table, size_t len, uint16_t *mirrored
             mirrored[2 * child + 1] = mirrored[2 * node];
             mirrored[2 * node] = child;
         }
+    }
+}
+
+/* The table of the tree whose nodes are numbered parent first, and their old numbers. */
+static void renumber_plainly(const uint16_t *table, size_t nodes, uint16_t *renumbered,
+                             uint16_t *old)
+{
+    uint16_t new[MOST_NODES];
+    number_parents_first(table, old);
+    for (size_t node = 0; node < nodes; node++) {
+        new[old[node]] = (uint16_t)node;
+    }
+    for (size_t i = 0; i < 2 * nodes; i++) {
+        uint16_t named = table[2 * old[i / 2] + i % 2];
+        renumbered[i] = named == NONE ? NONE : new[named];
     }
 }
 
@@ -171,7 +203,7 @@ static void mirror(const struct input *input, const uint16_t *entries, size_t le
 
 static void renumber(const struct input *input, const uint16_t *entries, size_t len)
 {
-    uint16_t old[MOST_NODES], new[MOST_NODES], renumbered[2 * MOST_NODES];
+    uint16_t old[MOST_NODES], renumbered[2 * MOST_NODES];
     size_t nodes = len / 2, out_len = length(input, 0, len), map_len = length(input, 1, nodes);
     struct lent table = lend_input(entries, 2 * len);
     struct lent out = lend_output(2 * out_len), map = lend_output(2 * map_len);
@@ -179,14 +211,7 @@ static void renumber(const struct input *input, const uint16_t *entries, size_t 
     unsigned wanted = table_number(entries, len);
     expect_number(&table, number, wanted != 0 ? wanted : out_len < len || map_len < nodes ? 7 : 0);
     if (number == 0) {
-        number_parents_first(entries, old);
-        for (size_t node = 0; node < nodes; node++) {
-            new[old[node]] = (uint16_t)node;
-        }
-        for (size_t i = 0; i < len; i++) {
-            uint16_t named = entries[2 * old[i / 2] + i % 2];
-            renumbered[i] = named == NONE ? NONE : new[named];
-        }
+        renumber_plainly(entries, nodes, renumbered, old);
     }
     expect_words(&out, renumbered, number == 0 ? len : 0);
     expect_words(&map, old, number == 0 ? nodes : 0);
@@ -343,6 +368,34 @@ static void list_sheet(const struct input *input, const uint8_t *bytes, size_t l
     expect_written(&file, 0);
 }
 
+static void read_newick(const struct input *input, const uint8_t *bytes, size_t len)
+{
+    static struct family family;
+    uint16_t old[MOST_NODES], wanted_table[2 * MOST_NODES], wanted_tapes[2 * MOST_NODES];
+    read_text(bytes, len, &family);
+    size_t n = at_most(family.nodes, MOST_NODES);
+    size_t table_len = length(input, 0, 2 * n), tapes_len = length(input, 1, 2 * n);
+    struct lent text = lend_input(bytes, len), nodes = lend_output(2);
+    struct lent table = lend_output(2 * table_len), tapes = lend_output(2 * tapes_len);
+    unsigned number = hiwenoka_read_newick(text.start, len, table.start, table_len, tapes.start,
+                                           tapes_len, nodes.start);
+    unsigned wanted = family.nodes == 0                        ? 15
+                      : family.nodes > MOST_NODES              ? 16
+                      : table_len < 2 * n || tapes_len < 2 * n ? 7
+                                                               : 0;
+    expect_number(&text, number, wanted);
+    n = number == 0 ? n : 0;
+    if (n > 0) {
+        renumber_plainly(family.table, n, wanted_table, old);
+    }
+    for (size_t i = 0; i < 2 * n; i++) {
+        wanted_tapes[i] = family.labels[2 * old[i / 2] + i % 2];
+    }
+    expect_words(&table, wanted_table, 2 * n);
+    expect_words(&tapes, wanted_tapes, 2 * n);
+    expect_word(&nodes, n);
+}
+
 int LLVMFuzzerInitialize(int *count, char ***words)
 {
     (void)count;
@@ -351,10 +404,44 @@ int LLVMFuzzerInitialize(int *count, char ***words)
     return 0;
 }
 
-int LLVMFuzzerTestOneInput(const uint8_t *data, size_t size)
+/* The operations on a table, on a sheet file and on a text. */
+static void call(unsigned operation, const struct input *input)
 {
     static uint16_t table[MOST_ENTRIES];
-    static uint8_t file[MOST_FILE + BLOCK_BYTES];
+    static uint8_t bytes[MOST_TEXT + 1];
+    size_t len = operation == 7   ? text_of(input, bytes)
+                 : operation >= 5 ? file_of(input, bytes)
+                                  : table_of(input, table);
+    switch (operation) {
+    case 0:
+        check_table(table, len);
+        break;
+    case 1:
+        mirror(input, table, len);
+        break;
+    case 2:
+        renumber(input, table, len);
+        break;
+    case 3:
+        layout(input, table, len);
+        break;
+    case 4:
+        write_sheet(input, table, len);
+        break;
+    case 5:
+        read_sheet(input, bytes, len);
+        break;
+    case 6:
+        list_sheet(input, bytes, len);
+        break;
+    case 7:
+        read_newick(input, bytes, len);
+        break;
+    }
+}
+
+int LLVMFuzzerTestOneInput(const uint8_t *data, size_t size)
+{
     if (size < HEAD) {
         return 0;
     }
@@ -367,33 +454,10 @@ int LLVMFuzzerTestOneInput(const uint8_t *data, size_t size)
         .rest_len = size - HEAD,
     };
     memcpy(input.slack, data + 4, 4);
-    /* What is cut off, what the slices hold, and a sheet's tapes hang on the input alone. */
+    /* What is cut off, what the slices hold, a sheet's tapes and a text's labels hang on the input
+       alone. */
     seed_random(input.separation + 65536 * (uint64_t)size);
     take_back(input.bits & AFTER_GUARD ? AT_START : AT_END);
-    unsigned operation = data[0] % 7;
-    size_t len = operation >= 5 ? file_of(&input, file) : table_of(&input, table);
-    switch (operation) {
-    case 0:
-        check_table(table, len);
-        break;
-    case 1:
-        mirror(&input, table, len);
-        break;
-    case 2:
-        renumber(&input, table, len);
-        break;
-    case 3:
-        layout(&input, table, len);
-        break;
-    case 4:
-        write_sheet(&input, table, len);
-        break;
-    case 5:
-        read_sheet(&input, file, len);
-        break;
-    case 6:
-        list_sheet(&input, file, len);
-        break;
-    }
+    call(data[0] % 8, &input);
     return 0;
 }

@@ -1,13 +1,13 @@
 #!/usr/bin/env bash
 # Counts instructions by callgrind: a node for the table operations, for the layout and for the
 # published pointer method (its baseline, which does not check the table), a byte for reading and
-# for writing a sheet file (a write checks the table too). Only the calls themselves count. The part
-# `time` takes the time of a layout beside the pointer method's and, where Debian's
-# node-d3-hierarchy is installed, that of d3's tree. The part `listing` does both for the whole way
-# from a sheet's bytes to its listing; it needs the program `listing` too, from ../target/bin or the
-# folder that HIWENOKA_BIN_DIR names.
+# for writing a sheet file (a write checks the table too) and for reading a Newick text. Only the
+# calls themselves count. The part `time` takes the time of a layout beside the pointer method's
+# and, where Debian's node-d3-hierarchy is installed, that of d3's tree. The part `listing` does both
+# for the whole way from a sheet's bytes to its listing; it needs the program `listing` too, from
+# ../target/bin or the folder that HIWENOKA_BIN_DIR names.
 #
-# Usage: bench.sh [table] [sheet] [layout] [time] [listing]; all five if none is named.
+# Usage: bench.sh [table] [sheet] [newick] [layout] [time] [listing]; all six if none is named.
 set -euo pipefail
 cd "$(dirname "$0")"
 
@@ -126,7 +126,7 @@ build() {
 }
 
 if [ $# -eq 0 ]; then
-    set -- table sheet layout time listing
+    set -- table sheet newick layout time listing
 fi
 for part in "$@"; do
     case "$part" in
@@ -145,6 +145,14 @@ for part in "$@"; do
             measure bench_sheet hiwenoka_write_sheet write
             measure bench_sheet hiwenoka_check_table check
         } | report "Sheet files, and the table check in a write: instructions a byte, by count of blocks"
+        ;;
+    newick)
+        build bench_newick
+        echo "Newick texts, by the digits of their labels: instructions a byte, by count of bytes"
+        measure bench_newick hiwenoka_read_newick long | report "Long labels, read; 1,024 nodes have 12,287 bytes at most"
+        measure bench_newick hiwenoka_read_newick short | report "Short labels, read"
+        measure bench_newick hiwenoka_read_newick broken | report "Refused for the last byte, 15"
+        measure bench_newick hiwenoka_read_newick crowded | report "Refused for more than 1,024 nodes, 16"
         ;;
     layout)
         build bench_layout

@@ -1,5 +1,6 @@
 #include "inputs.h"
 #include "random.h"
+#include <stdio.h>
 #include <string.h>
 
 enum { SHAPES = 8 };
@@ -214,5 +215,76 @@ size_t damage_sheet(uint8_t *file, size_t bytes, unsigned number)
         }
         close_block(file, 0);
         return bytes;
+    }
+}
+
+void make_labels(uint16_t *tapes, size_t nodes)
+{
+    for (size_t node = 0; node < nodes; node++) {
+        uint64_t label = random_bits() >> (32 + below(32));
+        tapes[2 * node] = (uint16_t)label;
+        tapes[2 * node + 1] = (uint16_t)(label >> 16);
+    }
+}
+
+static size_t put_label(uint8_t *text, const uint16_t *words)
+{
+    return (size_t)sprintf((char *)text, "%u", words[0] + 65536 * (unsigned)words[1]);
+}
+
+size_t make_text(uint8_t *text, const uint16_t *table, const uint16_t *tapes)
+{
+    uint16_t path[MOST_NODES + 1], node = 0;
+    size_t depth = 0, bytes = 0;
+    for (;;) {
+        for (; table[2 * node] != NONE; node = table[2 * node]) {
+            path[depth++] = node;
+            text[bytes++] = '(';
+        }
+        bytes += put_label(text + bytes, tapes + 2 * node);
+        while (depth > 0 && table[2 * node + 1] == NONE) {
+            node = path[--depth];
+            text[bytes++] = ')';
+            bytes += put_label(text + bytes, tapes + 2 * node);
+        }
+        if (depth == 0) {
+            text[bytes++] = ';';
+            return bytes;
+        }
+        node = table[2 * node + 1];
+        text[bytes++] = ',';
+    }
+}
+
+static size_t put_in(uint8_t *text, size_t bytes, size_t place, uint8_t byte)
+{
+    memmove(text + place + 1, text + place, bytes - place);
+    text[place] = byte;
+    return bytes + 1;
+}
+
+size_t damage_text(uint8_t *text, size_t bytes, unsigned way)
+{
+    static const char strange[] = " \n\t:'\"[]_-+a/";
+    uint8_t byte = (uint8_t)strange[below(sizeof strange)];
+    size_t place = below(bytes);
+    switch (way) {
+    case 0: /* a byte that no text has */
+        text[place] = byte;
+        return bytes;
+    case 1: /* the same, put in */
+        return put_in(text, bytes, below(bytes + 1), byte);
+    case 2: /* no end */
+        return place;
+    case 3: /* a bracket that is not closed */
+        return put_in(text, bytes, 0, '(');
+    case 4: /* a label with a needless zero: the root's, which is the last */
+        for (place = bytes - 1; place > 0 && text[place - 1] >= '0' && text[place - 1] <= '9';) {
+            place--;
+        }
+        return put_in(text, bytes, place, '0');
+    default: /* too long */
+        memset(text + bytes, text[place], MOST_TEXT + 1 - bytes);
+        return MOST_TEXT + 1;
     }
 }

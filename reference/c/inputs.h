@@ -1,4 +1,4 @@
-/* Tables and sheet files, well-formed and damaged. */
+/* Tables, sheet files and Newick texts, well-formed and damaged. */
 
 #ifndef INPUTS_H
 #define INPUTS_H
@@ -8,6 +8,7 @@
 
 enum { NONE = 65535, MOST_NODES = 1024 };
 enum { BLOCK_WORDS = 256, BLOCK_BYTES = 512, BLOCK_ROWS = 63, MOST_FILE = 18 * BLOCK_BYTES };
+enum { MOST_TEXT = 16384 };
 
 /* A well-formed table of so many nodes, of some shape, numbered at random but for the root. */
 void make_tree(uint16_t *table, size_t nodes);
@@ -39,5 +40,17 @@ size_t make_sheet(uint8_t *file, const uint16_t *table, const uint16_t *tapes, s
 /* Damages a sheet file so that this condition, 9 to 12, is the first that holds. Its new length,
    at most MOST_FILE + BLOCK_BYTES. */
 size_t damage_sheet(uint8_t *file, size_t bytes, unsigned number);
+
+/* Two words for each of so many nodes, of a label of any count of digits. */
+void make_labels(uint16_t *tapes, size_t nodes);
+
+/* Writes the Newick text of a table with two words of tapes for each node. Its length, below
+   MOST_TEXT. */
+size_t make_text(uint8_t *text, const uint16_t *table, const uint16_t *tapes);
+
+/* Damages such a text in one of DAMAGES ways so that it is refused with 15. Its new length, at most
+   MOST_TEXT + 1. */
+enum { DAMAGES = 6 };
+size_t damage_text(uint8_t *text, size_t bytes, unsigned way);
 
 #endif

@@ -6,27 +6,30 @@
  *                                  then start right after one; inputs lie on read-only pages
  *     memory apart ROUNDS SEED     each slice is a block of its own, for valgrind's memcheck; what
  *                                  is to be written is not initialised
+ *     memory stack                 what a call of read_newick takes of the stack
  */
 
 #include "hiwenoka.h"
 #include "levels.h"
 #include "lent.h"
 #include "random.h"
+#include "stack.h"
 #include <stdio.h>
 #include <stdlib.h>
 #include <string.h>
 
-enum operation { CHECK, LAYOUT, MIRROR, RENUMBER, READ, WRITE, LIST, OPERATIONS };
+enum operation { CHECK, LAYOUT, MIRROR, RENUMBER, READ, WRITE, LIST, NEWICK, OPERATIONS };
 
-static const char *const names[OPERATIONS] = {"check_table", "layout",      "mirror",    "renumber",
-                                              "read_sheet",  "write_sheet", "list_sheet"};
+static const char *const names[OPERATIONS]
+    = {"check_table", "layout",      "mirror",     "renumber",
+       "read_sheet",  "write_sheet", "list_sheet", "read_newick"};
 
 /* The numbers that each operation can give, as bits. */
 static const unsigned possible[OPERATIONS]
-    = {0x403f, 0x41ff, 0x40bf, 0x40bf, 0x1e81, 0x60ff, 0x5ebd};
+    = {0x403f, 0x41ff, 0x40bf, 0x40bf, 0x1e81, 0x60ff, 0x5ebd, 0x18081};
 
 /* The number that a call must give is not known. */
-enum { ANY = 15 };
+enum { ANY = 17 };
 
 static unsigned long given[OPERATIONS][ANY];
 static enum placing placing;
@@ -184,6 +187,21 @@ static void list_sheet(const uint8_t *bytes, size_t len, size_t out_len, unsigne
     expect_number(LIST, &file, number_in(out.start, written), wanted);
 }
 
+static void read_newick(const uint8_t *bytes, size_t len, size_t table_len, size_t tapes_len,
+                        unsigned wanted)
+{
+    take_back(placing);
+    struct lent text = lend_input(bytes, len), nodes = lend_output(2);
+    struct lent table = lend_output(2 * table_len), tapes = lend_output(2 * tapes_len);
+    uint16_t number = hiwenoka_read_newick(text.start, len, table.start, table_len, tapes.start,
+                                           tapes_len, nodes.start);
+    expect_number(NEWICK, &text, number, wanted);
+    expect_field(&nodes, number);
+    size_t n = *(uint16_t *)nodes.start;
+    expect_written(&table, 4 * n);
+    expect_written(&tapes, 4 * n);
+}
+
 /* Often a small one. */
 static uint16_t some_separation(void)
 {
@@ -318,6 +336,51 @@ static void sheets(const uint16_t *table, size_t nodes)
     }
 }
 
+static void damaged_texts(const uint8_t *text, size_t bytes, size_t len)
+{
+    uint8_t damaged[MOST_TEXT + 1];
+    for (unsigned way = 0; way < DAMAGES; way++) {
+        memcpy(damaged, text, bytes);
+        read_newick(damaged, damage_text(damaged, bytes, way), len, len, 15);
+    }
+    memcpy(damaged, text, bytes);
+    for (size_t count = 1 + below(3); count > 0; count--) {
+        damaged[below(bytes)] = (uint8_t)"(),;0123456789"[below(14)];
+    }
+    read_newick(damaged, bytes, len, len, ANY);
+}
+
+/* Brackets without end, and a tree with a node too many. */
+static void large_texts(size_t len)
+{
+    uint8_t text[MOST_TEXT];
+    uint16_t table[2 * (MOST_NODES + 1)], labels[2 * (MOST_NODES + 1)];
+    memset(text, '(', sizeof text);
+    read_newick(text, below(2) == 0 ? MOST_TEXT : below(MOST_TEXT), len, len, 15);
+    make_tree(table, MOST_NODES + 1);
+    make_labels(labels, MOST_NODES + 1);
+    size_t bytes = make_text(text, table, labels);
+    read_newick(text, bytes, len, len, 16);
+    read_newick(text, bytes - 1, len, len, 15);
+}
+
+static void texts(const uint16_t *table, size_t nodes)
+{
+    uint8_t text[MOST_TEXT];
+    uint16_t labels[2 * MOST_NODES];
+    make_labels(labels, nodes);
+    size_t bytes = make_text(text, table, labels);
+    size_t len = 2 * nodes, shorter = below(2) == 0 ? 1 : len;
+    read_newick(text, bytes, len, len, 0);
+    read_newick(text, bytes, len - shorter, len, 7);
+    read_newick(text, bytes, len, len - shorter, 7);
+    read_newick(text, bytes, len + 1 + below(9), len + 1 + below(9), 0);
+    damaged_texts(text, bytes, len);
+    if (below(8) == 0) {
+        large_texts(len);
+    }
+}
+
 /* Small trees often, and those at the edges of a block and of the whole range. */
 static size_t some_size(void)
 {
@@ -344,6 +407,7 @@ static void one_round(uint64_t seed)
     wrong_lengths();
     damaged_tables(table, nodes);
     sheets(table, nodes);
+    texts(table, nodes);
 }
 
 /* Every number that an operation can give must have been given, and no other. */
@@ -365,8 +429,12 @@ static void report(void)
 
 int main(int count, char **words)
 {
+    if (count == 2 && strcmp(words[1], "stack") == 0) {
+        report_stack();
+        return 0;
+    }
     if (count != 4) {
-        fprintf(stderr, "usage: memory guarded|apart ROUNDS SEED\n");
+        fprintf(stderr, "usage: memory guarded|apart ROUNDS SEED, or memory stack\n");
         return 2;
     }
     int guarded = strcmp(words[1], "guarded") == 0;

@@ -65,6 +65,15 @@ mod raw {
             out: *mut u8,
             out_len: usize,
         ) -> usize;
+        pub fn hiwenoka_read_newick(
+            text: *const u8,
+            text_len: usize,
+            table: *mut u16,
+            table_len: usize,
+            tapes: *mut u16,
+            tapes_len: usize,
+            nodes: *mut u16,
+        ) -> u16;
     }
 }
 
@@ -191,4 +200,20 @@ pub const TEXT_ROOM: usize = 41_024;
 pub fn list_sheet(file: &[u8], out: &mut [u8]) -> usize {
     // SAFETY: as in `mirror`.
     unsafe { raw::hiwenoka_list_sheet(file.as_ptr(), file.len(), out.as_mut_ptr(), out.len()) }
+}
+
+#[inline]
+pub fn read_newick(text: &[u8], table: &mut [u16], tapes: &mut [u16], nodes: &mut u16) -> u16 {
+    // SAFETY: as in `mirror`.
+    unsafe {
+        raw::hiwenoka_read_newick(
+            text.as_ptr(),
+            text.len(),
+            table.as_mut_ptr(),
+            table.len(),
+            tapes.as_mut_ptr(),
+            tapes.len(),
+            nodes,
+        )
+    }
 }

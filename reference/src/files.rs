@@ -2,7 +2,7 @@
 
 use crate::random::Random;
 use crate::shapes::{self, random_table};
-use crate::sheet::{self, Sheet, BLOCK_BYTES, BLOCK_WORDS, MOST_BLOCKS};
+use crate::sheet::{self, words_of, Sheet, BLOCK_BYTES, BLOCK_WORDS, MOST_BLOCKS};
 use crate::table::NONE;
 
 /// A titled maker of many files.
@@ -55,7 +55,7 @@ pub const KINDS: [Kind; 9] = [
 const MOST_RANDOM_BYTES: usize = 12_000;
 
 /// A tape number: any, a small one, or one beside a power of ten.
-fn random_tape(random: &mut Random) -> u32 {
+pub fn random_tape(random: &mut Random) -> u32 {
     match random.below(4) {
         0 => random.bits() as u32,
         1 => random.below(100_000) as u32,
@@ -67,12 +67,8 @@ fn random_tape(random: &mut Random) -> u32 {
 /// A sheet of this table, its separation often a small one.
 pub fn random_sheet(table: Vec<u16>, random: &mut Random) -> Sheet {
     let greatest = [3, 12, 1_024][random.below(3)];
-    let tapes = (0..table.len() / 2).flat_map(|_| {
-        let tape = random_tape(random);
-        [tape as u16, (tape >> 16) as u16]
-    });
     Sheet {
-        tapes: tapes.collect(),
+        tapes: words_of((0..table.len() / 2).map(|_| random_tape(random))),
         separation: random.between(1, greatest) as u16,
         table,
     }

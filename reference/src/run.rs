@@ -90,6 +90,13 @@ impl Run {
         );
     }
 
+    /// The same, each of them at least so often.
+    pub fn expect_often(&self, numbers: &[u16], least: u64) {
+        self.expect_numbers(numbers);
+        let rare = self.numbers.iter().find(|(_, &count)| count < least);
+        self.expect("a number that is rare", rare, None, &"all calls");
+    }
+
     /// Prints all calls and how many gave each number; fails if they are too few.
     pub fn finish(self, least_calls: u64) {
         let Run { name, calls, .. } = self;

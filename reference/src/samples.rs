@@ -1,9 +1,11 @@
-//! The sheets of the folder `samples/`, good and damaged, each made anew in the same way.
+//! The sheets of the folder `samples/`, good and damaged, and a Newick text, each made anew in the
+//! same way.
 
 use crate::listing::listing;
+use crate::newick::{text_of, Tree};
 use crate::random::Random;
 use crate::shapes;
-use crate::sheet::{self, Sheet};
+use crate::sheet::{self, words_of, Sheet};
 use crate::table::{renumber, table_of, Children, NONE};
 use std::path::{Path, PathBuf};
 
@@ -21,6 +23,18 @@ impl Sample {
             (format!("{}.listing", self.name), listing(&self.file)),
         ]
     }
+}
+
+/// The Newick text of the tree of P6: its name and what it holds.
+pub fn newick() -> (String, Vec<u8>) {
+    let Sheet { table, tapes, .. } = p6();
+    ("p6.newick".to_string(), text_of(&Tree { table, tapes }))
+}
+
+/// All files of the folder but its page.
+pub fn files() -> impl Iterator<Item = (String, Vec<u8>)> {
+    let sheets = samples().into_iter().flat_map(|sample| sample.files());
+    sheets.chain([newick()])
 }
 
 /// The folder at the root of the repository.
@@ -60,10 +74,7 @@ fn sheet_of(separation: u16, table: Vec<u16>, tapes: impl IntoIterator<Item = u3
     Sheet {
         separation,
         table,
-        tapes: tapes
-            .into_iter()
-            .flat_map(|tape| [tape as u16, (tape >> 16) as u16])
-            .collect(),
+        tapes: words_of(tapes),
     }
 }
 

@@ -54,6 +54,14 @@ pub struct Sheet {
     pub tapes: Vec<u16>,
 }
 
+/// The low and the high word of each tape number.
+pub fn words_of(tapes: impl IntoIterator<Item = u32>) -> Vec<u16> {
+    tapes
+        .into_iter()
+        .flat_map(|tape| [tape as u16, (tape >> 16) as u16])
+        .collect()
+}
+
 /// The conditions in the reader's order, then the rows.
 fn contents(file: &[u8], table_len: usize, tapes_len: usize) -> Result<Sheet, u16> {
     if !file.len().is_multiple_of(BLOCK_BYTES) || !(1_024..=9_216).contains(&file.len()) {

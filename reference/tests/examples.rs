@@ -59,12 +59,26 @@ fn built(source: &str, compiler: &str) -> Command {
     Command::new(program)
 }
 
+/// What the program prints for a file of the repository.
+fn printed_for(path: &str, program: &mut Command) -> String {
+    let input = File::open(root().join(path)).expect("a file of the repository");
+    printed_by(program.stdin(Stdio::from(input)))
+}
+
 /// The program lists the samples as they are stored.
 fn lists(mut program: Command) {
     for sample in ["example", "family", "damaged-stray", "damaged-ring"] {
-        let sheet = File::open(root().join(format!("samples/{sample}.sheet"))).expect("a sample");
-        let printed = printed_by(program.stdin(Stdio::from(sheet)));
+        let printed = printed_for(&format!("samples/{sample}.sheet"), &mut program);
         assert_eq!(printed, text(&format!("samples/{sample}.listing")));
+    }
+}
+
+/// The program lists the trees of texts; other files are no such texts.
+fn lists_texts(mut program: Command) {
+    let printed = printed_for("samples/p6.newick", &mut program);
+    assert_eq!(printed, text("samples/p6.listing"));
+    for path in ["samples/p6.sheet", "samples/README.md"] {
+        assert_eq!(printed_for(path, &mut program), "refused 15\n");
     }
 }
 
@@ -75,6 +89,7 @@ fn the_programs_in_c_build_and_print() {
     assert_eq!(printed, LAID_OUT);
     let printed = printed_by(&mut built("examples/write.c", "gcc "));
     assert_eq!(printed, WRITTEN);
+    lists_texts(built("examples/newick.c", "gcc "));
 }
 
 #[test]
@@ -84,6 +99,7 @@ fn the_programs_in_rust_build_and_print() {
     assert_eq!(printed, LAID_OUT);
     let printed = printed_by(&mut built("examples/write.rs", "rustc "));
     assert_eq!(printed, WRITTEN);
+    lists_texts(built("examples/newick.rs", "rustc "));
 }
 
 #[test]

@@ -341,7 +341,7 @@ impl Comparison {
 
 #[test]
 fn the_samples_are_as_they_are_made() {
-    let made: BTreeMap<String, Vec<u8>> = samples().iter().flat_map(|s| s.files()).collect();
+    let made: BTreeMap<String, Vec<u8>> = samples::files().collect();
     let mut stored = BTreeMap::new();
     for entry in fs::read_dir(samples::folder()).expect("there is a folder of samples") {
         let path = entry.expect("the folder can be read").path();
@@ -353,9 +353,11 @@ fn the_samples_are_as_they_are_made() {
         .remove("README.md")
         .expect("the samples have a table");
     let table = String::from_utf8(table).expect("the table is text");
-    for sample in samples() {
-        let row = format!("| `{}` |", sample.name);
-        assert!(table.contains(&row), "the table has no {}", sample.name);
+    let (newick, _) = samples::newick();
+    let sheets = samples().into_iter().map(|sample| sample.name.to_string());
+    for name in sheets.chain([newick]) {
+        let row = format!("| `{name}` |");
+        assert!(table.contains(&row), "the table has no {name}");
     }
     assert!(stored.keys().eq(made.keys()), "other files are stored");
     for (name, bytes) in &made {

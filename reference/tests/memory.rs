@@ -1,5 +1,6 @@
 //! The library reads and writes nothing but what it is lent, and leaves nothing undefined that it
-//! promises to write: `c/memory.c`, on guarded pages and under valgrind's memcheck.
+//! promises to write: `c/memory.c`, on guarded pages and under valgrind's memcheck. A small stack is
+//! enough for it, however deep a text is: `c/stack.c`.
 
 use reference::random::seed;
 use reference::run::say;
@@ -38,6 +39,8 @@ fn program(name: &str) -> PathBuf {
             .arg(package.join("../include"))
             .args(sources)
             .arg(env!("HIWENOKA_ARCHIVE"))
+            // So that the first call of a function takes no more of the stack than another.
+            .arg("-Wl,-z,now")
             .arg("-o")
             .arg(&built),
     );
@@ -74,4 +77,9 @@ fn memcheck_finds_no_error() {
             .arg(program("memory_apart"))
             .args(words("apart", 3_000)),
     );
+}
+
+#[test]
+fn a_small_stack_is_enough() {
+    run("stack", Command::new(program("memory_stack")).arg("stack"));
 }

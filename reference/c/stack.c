@@ -1,0 +1,102 @@
+#define _DEFAULT_SOURCE
+#include "stack.h"
+#include "hiwenoka.h"
+#include "inputs.h"
+#include "lent.h"
+#include <stdio.h>
+#include <string.h>
+#include <sys/mman.h>
+#include <ucontext.h>
+
+/* The stack ends at a guard as large as itself. */
+enum { STACK = 256 << 10, PAINT = 0xa5 };
+
+/* A text of parts, some of them repeated; `nodes` is how many it has. */
+struct text {
+    const char *name, *start, *before, *middle, *after, *end;
+    size_t count, nodes;
+    unsigned number;
+};
+
+static const struct text texts[] = {
+    {"a node alone", "", "", "0", "", ";", 0, 1, 0},
+    {"a chain", "", "(", "0", ")0", ";", 1023, 1024, 0},
+    {"a star", "(", "0,", "0", "", ")0;", 1022, 1024, 0},
+    {"a path with a leaf before each node", "", "(0,", "0", ")0", ";", 511, 1023, 0},
+    {"a path with a leaf after each node", "", "(", "0", ",0)0", ";", 511, 1023, 0},
+    {"a path that turns at each node", "", "(0,(", "0", ",0)0)0", ";", 255, 1021, 0},
+    {"a chain of long labels", "", "(", "4294967295", ")4294967295", ";", 1023, 1024, 0},
+    {"a chain with a node too many", "", "(", "0", ")0", ";", 1024, 1025, 16},
+    {"a star with a node too many", "(", "0,", "0", "", ")0;", 1023, 1025, 16},
+    {"the deepest chain", "", "(", "0", ")0", ";", 5460, 5461, 16},
+    {"the broadest star", "(", "0,", "0", "", ")0;", 8189, 8191, 16},
+    {"the deepest chain without its end", "", "(", "0", ")0", "", 5460, 5461, 15},
+    {"opening brackets alone", "", "(", "", "", "", MOST_TEXT, 0, 15},
+    {"closing brackets alone", "", ")", "", "", "", MOST_TEXT, 0, 15},
+    {"digits alone", "", "0", "", "", "", MOST_TEXT, 0, 15},
+};
+
+static uint8_t bytes[MOST_TEXT + 1];
+static size_t len;
+static uint16_t table[2 * MOST_NODES], tapes[2 * MOST_NODES], nodes, number;
+
+static void put(const char *part, size_t count)
+{
+    for (; count > 0; count--) {
+        size_t part_len = strlen(part);
+        expect(len + part_len <= MOST_TEXT, "the text is not too long");
+        memcpy(bytes + len, part, part_len);
+        len += part_len;
+    }
+}
+
+static void call(void)
+{
+    number = hiwenoka_read_newick(bytes, len, table, 2 * MOST_NODES, tapes, 2 * MOST_NODES, &nodes);
+}
+
+static void no_call(void)
+{
+}
+
+/* The bytes of a stack of its own down to the deepest that a function has written to. */
+static size_t depth_of(void (*function)(void))
+{
+    static ucontext_t here, there;
+    unsigned char *memory = mmap(NULL, 2 * STACK, PROT_READ | PROT_WRITE,
+                                 MAP_PRIVATE | MAP_ANONYMOUS, -1, 0);
+    expect(memory != MAP_FAILED && mprotect(memory, STACK, PROT_NONE) == 0, "there is a stack");
+    unsigned char *stack = memory + STACK;
+    memset(stack, PAINT, STACK);
+    expect(getcontext(&there) == 0, "the stack can be changed");
+    there.uc_stack.ss_sp = stack;
+    there.uc_stack.ss_size = STACK;
+    there.uc_link = &here;
+    makecontext(&there, function, 0);
+    expect(swapcontext(&here, &there) == 0, "the stack can be changed");
+    size_t untouched = 0;
+    while (untouched < STACK && stack[untouched] == PAINT) {
+        untouched++;
+    }
+    munmap(memory, 2 * STACK);
+    return STACK - untouched;
+}
+
+void report_stack(void)
+{
+    size_t outside = depth_of(no_call);
+    for (size_t i = 0; i < sizeof texts / sizeof *texts; i++) {
+        const struct text *text = &texts[i];
+        len = 0;
+        put(text->start, 1);
+        put(text->before, text->count);
+        put(text->middle, 1);
+        put(text->after, text->count);
+        put(text->end, 1);
+        size_t used = depth_of(call) - outside;
+        expect(number == text->number, text->name);
+        expect(nodes == (number == 0 ? text->nodes : 0), text->name);
+        printf("read_newick: %zu bytes of stack: %s, nodes %zu, bytes %zu: gave %u\n", used,
+               text->name, text->nodes, len, number);
+    }
+}
