@@ -8,8 +8,8 @@
 #include <sys/mman.h>
 #include <ucontext.h>
 
-/* The stack ends at a guard as large as itself. */
-enum { STACK = 256 << 10, PAINT = 0xa5 };
+/* The stack ends at a guard as large as itself; a call that does not go into the text takes little. */
+enum { STACK = 256 << 10, LITTLE = 1 << 10, PAINT = 0xa5 };
 
 /* A text of parts, some of them repeated; `nodes` is how many it has. */
 struct text {
@@ -96,6 +96,7 @@ void report_stack(void)
         size_t used = depth_of(call) - outside;
         expect(number == text->number, text->name);
         expect(nodes == (number == 0 ? text->nodes : 0), text->name);
+        expect(number == 0 || used < LITTLE, "a refused text is not gone into");
         printf("read_newick: %zu bytes of stack: %s, nodes %zu, bytes %zu: gave %u\n", used,
                text->name, text->nodes, len, number);
     }

@@ -11,7 +11,7 @@ use Rattle.lines.proofs.Decimal.{by-tens, decimal-small, decimal-large}
 use Rattle.tree.specs.Forest.{Forest, nil, node, join}
 use Rattle.tree.proofs.Joined.{join-assoc}
 use Rattle.newick.specs.Text.{opening, closing, comma, semicolon, mostLabel, Labels, subtreeText, listText, IsText}
-use Rattle.newick.specs.Reading.{Reading, due, closed, label, ended, isDigit, next, reading, whole, treeRead}
+use Rattle.newick.specs.Reading.{Reading, due, closed, label, isDigit, next, reading, whole, treeRead}
 use Rattle.newick.proofs.Digits.{is-digit, digit-low}
 
 reading-append : (state : Reading) (a b : List ℕ) → reading state (a ++ b) ≡ reading (reading state a) b

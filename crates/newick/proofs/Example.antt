@@ -3,7 +3,7 @@ use mathlib.Core.Path.{_≡_, refl}
 use Prim.Native.Nat.{ℕ}
 use mathlib.Core.List.{List, [], _∷_}
 use Rattle.tree.specs.Table.{none}
-use Rattle.tree.specs.Forest.{Forest, nil, node, tableOf}
+use Rattle.tree.specs.Forest.{nil, node, tableOf}
 use Rattle.tree.proofs.Counting.{All}
 use Rattle.newick.specs.Reading.{isDigit, next, reading, treeRead}
 use Rattle.newick.specs.Read.{nodesOf, linksOf, tapesOf, refusal}

@@ -1,3 +1,6 @@
+-- Why Newick text is read right: digits; reading and the text of a tree agree; the first pass counts what reading builds; labels, subtrees
+-- and lists where they stand in a text, and what they store; the table that is read; the answer, and what each number says. Stands on
+-- `tree`, `lines` and `refusal`; `exports` cites the answer alone.
 pub mod Digits
 pub mod Shown
 pub mod Exact

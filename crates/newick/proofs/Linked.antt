@@ -1,8 +1,7 @@
 -- The rows of a labelled tree are the table of the tree numbered in preorder: the table check passes it, and renumbering it changes
 -- nothing. Assumes nothing.
 use mathlib.Core.Path.{_≡_, refl, sym, ap, ap₂, _∙_}
-use Prim.Native.Nat.{ℕ, suc, _+_, _*_, _≤_, _<_}
-use native.Mathlib.Nat.{zero-add}
+use Prim.Native.Nat.{ℕ, _+_, _*_, _≤_}
 use native.Mathlib.Omega.{arith}
 use mathlib.Core.List.{List, [], _∷_, _++_, append-assoc, append-nil}
 use lib.ListN.{length, getD, length-append}
@@ -15,7 +14,7 @@ use Rattle.tree.specs.Operations.{numberFrom, renumbered, oldNumbers}
 use Rattle.tree.proofs.Reading.{Agrees}
 use Rattle.tree.proofs.Stands.{Numbers}
 use Rattle.tree.proofs.TableOf.{tableOf-unique, tableOf-accepted, tableOf-tree, nodes-tableOf}
-use Rattle.tree.proofs.Renumbered.{run, run-upTo, preorder-numberFrom, tree-numbers}
+use Rattle.tree.proofs.Renumbered.{run-upTo, preorder-numberFrom, tree-numbers}
 use Rattle.newick.specs.Read.{mostNodes, linksOf}
 use Rattle.newick.specs.Steps.{rowsFrom}
 use Rattle.newick.proofs.Stored.{length-rows}

@@ -1,7 +1,7 @@
 -- The bytes that were read are the text of what reading leaves, so that a tree that was read whole is the tree of its text.
 -- Assumes nothing.
 use mathlib.Core.Path.{_≡_, refl, sym, ap, ap₂, _∙_, subst}
-use Prim.Native.Nat.{ℕ, zero, suc, _+_, _-_, _*_, _≤_, _<_}
+use Prim.Native.Nat.{ℕ, _+_, _-_, _*_}
 use native.Mathlib.Omega.{arith}
 use mathlib.Core.Bool.{Bool, true, false, cond}
 use mathlib.Core.List.{List, [], _∷_, _++_, append-assoc, append-nil}
@@ -10,9 +10,9 @@ use borrow.Author.Tests.{eqb-true, eqb-false, leb-true}
 use Rattle.lines.specs.Decimal.{zeroByte, digit, decimal}
 use Rattle.tree.specs.Forest.{Forest, nil, node, join}
 use Rattle.tree.proofs.Counting.{All}
-use Rattle.newick.specs.Text.{opening, closing, comma, semicolon, mostLabel, Labels, subtreeText, further, listText, newick, IsText}
+use Rattle.newick.specs.Text.{opening, closing, comma, semicolon, mostLabel, Labels, subtreeText, further, listText, IsText}
 use Rattle.newick.specs.Reading.{Reading, due, closed, label, ended, broken, isDigit, begun, lengthened, parted, next, reading, whole, treeRead}
-use Rattle.newick.proofs.Digits.{digit-low, digit-high, decimal-byte, decimal-more}
+use Rattle.newick.proofs.Digits.{digit-high, decimal-byte, decimal-more}
 
 -- ---- the text of a reading
 
@@ -120,9 +120,18 @@ parted-shows : (rows : List Forest) (below : Forest) (v : ℕ) (text : List ℕ)
 parted-shows [] below v text byte s = shows-if (eqb byte semicolon) (ended (node v below nil)) (text ++ byte ∷ []) whole
   where
     whole : eqb byte semicolon ≡ true → Shows (ended (node v below nil)) (text ++ byte ∷ [])
-    whole h = record { root = v; below = below; is-tree = refl; is-text = ap₂ (λ (t : List ℕ) (b : ℕ). t ++ b ∷ []) (s .0 ∙ label-last v below below (listText below)) (eqb-true byte semicolon h); labels = s .1 .1 }
+    whole h = record {
+      root = v;
+      below = below;
+      is-tree = refl;
+      is-text = ap₂ (λ (t : List ℕ) (b : ℕ). t ++ b ∷ []) (s .0 ∙ label-last v below below (listText below)) (eqb-true byte semicolon h);
+      labels = s .1 .1;
+    }
 parted-shows (row ∷ rows) below v text byte s =
-    shows-either (eqb byte comma) (due (join row (node v below nil) ∷ rows)) (cond (eqb byte closing) (closed rows (join row (node v below nil))) broken) (text ++ byte ∷ []) after-comma
+    shows-either (eqb byte comma) (due (join row (node v below nil) ∷ rows))
+    (cond (eqb byte closing) (closed rows (join row (node v below nil))) broken)
+    (text ++ byte ∷ [])
+    after-comma
     (λ n. shows-if (eqb byte closing) (closed rows (join row (node v below nil))) (text ++ byte ∷ []) after-closing)
   where
     labels : Labels (join row (node v below nil))

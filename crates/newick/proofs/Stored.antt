@@ -1,6 +1,6 @@
 -- What a list of subtrees stores in a slice, numbered from k on. Assumes nothing.
 use mathlib.Core.Path.{_≡_, refl, sym, ap, _∙_}
-use Prim.Native.Nat.{ℕ, suc, _+_, _*_, _≤_, _<_}
+use Prim.Native.Nat.{ℕ, suc, _+_, _*_, _≤_}
 use native.Mathlib.Numerals.{add-one}
 use native.Mathlib.Omega.{arith}
 use mathlib.Core.List.{List, [], _∷_, _++_, append-assoc, append-nil}
@@ -9,7 +9,6 @@ use lib.Seq.{sets, set-set}
 use Rattle.refusal.proofs.After.{sets-append}
 use Rattle.lines.proofs.Put.{sets-late}
 use Rattle.tree.specs.Table.{none}
-use Rattle.tree.specs.Numbers.{flatMap}
 use Rattle.tree.specs.Forest.{Forest, nil, node, size, entry, preorder}
 use Rattle.tree.specs.Operations.{numberFrom}
 use Rattle.tree.proofs.TableOf.{flatMap-append}

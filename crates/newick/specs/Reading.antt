@@ -1,6 +1,6 @@
 -- How a text is read, byte by byte. For each bracket that is open, the innermost first, there are the subtrees of its list that are
 -- whole so far.
-use Prim.Native.Nat.{ℕ, zero, suc, _+_, _-_, _*_}
+use Prim.Native.Nat.{ℕ, _+_, _-_, _*_}
 use mathlib.Core.Bool.{Bool, cond, _&&_}
 use mathlib.Core.List.{List, [], _∷_}
 use lib.Dec.{eqb, leb}

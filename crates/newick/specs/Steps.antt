@@ -1,17 +1,18 @@
 -- What the inner steps promise.
 use Prim.Native.Nat.{ℕ, zero, suc, _+_, _-_, _*_, _≤_, _<_}
 use mathlib.Core.Path.{_≡_}
-use mathlib.Core.Bool.{true, false, cond}
+use mathlib.Core.Bool.{false, cond}
 use mathlib.Core.List.{List, [], _∷_, _++_}
-use lib.Dec.{eqb, leb}
+use lib.Dec.{eqb, leb, ltb}
 use lib.ListN.{length, drop}
 use lib.Seq.{sets}
+use Rattle.refusal.specs.First.{_⇐_, first}
 use Rattle.lines.specs.Decimal.{zeroByte}
 use Rattle.tree.specs.Forest.{Forest, nil, node, size, entry}
 use Rattle.tree.specs.Operations.{numberFrom}
 use Rattle.newick.specs.Text.{opening, closing, comma, semicolon, mostLabel, Labels, listText}
 use Rattle.newick.specs.Reading.{isDigit}
-use Rattle.newick.specs.Read.{mostNodes, words, tapesOf}
+use Rattle.newick.specs.Read.{mostNodes, roomWrong, tapesOf}
 use Rattle.newick.specs.declared.judge.Scan.{Scan}
 use Rattle.newick.specs.declared.judge.Scan.the-variants.{Due, Closed, Label, Ended, Broken}
 use Rattle.newick.specs.declared.rows.Reached.{Reached}
@@ -55,6 +56,10 @@ Within k (Closed depth nodes) = (depth ≤ k) × (nodes ≤ k)
 Within k (Label depth nodes value) = (depth ≤ k) × (nodes ≤ k)
 Within k (Ended nodes) = nodes ≤ k
 Within k Broken = Unit
+
+-- the number of a text of n nodes that is not too long
+unfoldable pub treeNumber : ℕ → ℕ → ℕ → ℕ
+treeNumber n tableLength tapesLength = first (15 ⇐ eqb n 0 ∷ 16 ⇐ ltb mostNodes n ∷ 7 ⇐ roomWrong n tableLength tapesLength ∷ [])
 
 -- ---- a label
 

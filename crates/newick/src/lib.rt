@@ -2,6 +2,7 @@
 // right is then read into a table slice and a tape slice.
 ghost use mathlib.Core.Path.{_≡_};
 ghost use Rattle.newick.specs.Read.{NewickRead};
+ghost use Rattle.newick.specs.Steps.{treeNumber};
 
 mod judge;
 mod label;
@@ -21,10 +22,23 @@ pub struct Newick {
     pub nodes: u16,
 }
 
-fn refused(number: u16) -> Newick
-    ensures { λ r. ⌜ r ≡ record { number = number; nodes = 0 } ⌝ }
+// The number of a text that is not too long, by its count of nodes and the slices' lengths.
+fn refusal_of(nodes: usize, table: usize, tapes: usize) -> u16
+    ensures { λ r. ⌜ r ≡ treeNumber nodes table tapes ⌝ }
 {
-    Newick { number, nodes: 0 }
+    if nodes == 0 {
+        return 15;
+    }
+    if nodes > MOST_NODES {
+        return 16;
+    }
+    if table < 2 * nodes {
+        return 7;
+    }
+    if tapes < 2 * nodes {
+        return 7;
+    }
+    0
 }
 
 // Reads a Newick text. Where it is accepted, the nodes are numbered parent first, then the children's subtrees left to right; each
@@ -34,20 +48,15 @@ pub fn read_newick(text: &[u8], table: &mut [u16], tapes: &mut [u16]) -> Newick
     ensures { λ r. ⌜ NewickRead (now (text .entry)) (now (table .entry)) (now (tapes .entry)) r (now (table .exit)) (now (tapes .exit)) ⌝ }
 {
     if text.len() > MOST_BYTES {
-        return refused(15);
+        return Newick {
+            number: 15,
+            nodes: 0,
+        };
     }
     let nodes = count_nodes(text);
-    if nodes == 0 {
-        return refused(15);
-    }
-    if nodes > MOST_NODES {
-        return refused(16);
-    }
-    if table.len() < 2 * nodes {
-        return refused(7);
-    }
-    if tapes.len() < 2 * nodes {
-        return refused(7);
+    let number = refusal_of(nodes, table.len(), tapes.len());
+    if number != 0 {
+        return Newick { number, nodes: 0 };
     }
     list(text, 0, 0, table, tapes);
     Newick {

@@ -1,10 +1,9 @@
 -- The loop over a label's digits. Assumes nothing.
-use mathlib.Core.Path.{_≡_, refl, sym, ap₂, _∙_}
+use mathlib.Core.Path.{refl, sym, ap₂, _∙_}
 use Prim.Native.Nat.{ℕ}
 use native.Mathlib.Omega.{arith}
-use lib.ListN.{getD, drop}
+use lib.ListN.{drop}
 use Rattle.newick.specs.Steps.{leading}
-use Rattle.newick.specs.declared.label.Label.{Label}
 use Rattle.newick.proofs.LabelAt.{Passed, Turn, passed-within, passed-turn, passed-label, passed-end}
 use Rattle.newick.proofs.label.number_at.Statement.{statement}
 use Rattle.newick.proofs.label.number_at.Tie as tie
@@ -20,11 +19,14 @@ abbrev μ-loop : tie.MeasureT-loop
 
 -- what is known where the test said that a digit stands at `end`
 digit-turn : (c : lts.Then1 (is-digit.Asked, is-digit.Learnt) reads.Pre reads.Post Inv-loop μ-loop)
-    → Turn (c .before .before .before .before .before .args .text .now) (c .before .before .before .before .before .args .at) (c .before .before .before .loop .value) (c .before .before .before .loop .end)
+    → Turn (c .before .before .before .before .before .args .text .now) (c .before .before .before .before .before .args .at)
+    (c .before .before .before .loop .value)
+    (c .before .before .before .loop .end)
 digit-turn c =
     let head = c .before .before .before in
     let a = head .before .before .args in
-    passed-turn (a .text .now) (a .at) (head .loop .value) (head .loop .end) (head .before .before .pre) (head .loop .inv) (sym (c .before .is-digit .ensures) ∙ c .if1 .taken)
+    passed-turn (a .text .now) (a .at) (head .loop .value) (head .loop .end) (head .before .before .pre) (head .loop .inv)
+    (sym (c .before .is-digit .ensures) ∙ c .if1 .taken)
 
 loop-holds : tie.Need-loop-holds Inv-loop μ-loop
 loop-holds c = (refl, refl)

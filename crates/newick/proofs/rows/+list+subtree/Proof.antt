@@ -1,9 +1,10 @@
 -- The proof of the cycle of calls {list, subtree}. Assumes nothing.
-use mathlib.Core.Path.{_≡_, _∙_}
+use mathlib.Core.Path.{_∙_}
 use Prim.Native.Nat.{ℕ, _+_, _-_, _*_, _<_}
 use native.Mathlib.Omega.{arith}
 use lib.ListN.{length}
-use Rattle.newick.proofs.Subtrees.{subtree-within, inner-list, inner-label, leaf-label, inner-read, leaf-read, first-here, behind-within, next-few, not-back, list-last, Turn, first-turn, next-turn}
+use Rattle.newick.proofs.Subtrees.{subtree-within, inner-list, inner-label, leaf-label, inner-read, leaf-read}
+use Rattle.newick.proofs.Subtrees.{first-here, behind-within, next-few, not-back, list-last, Turn, first-turn, next-turn}
 use borrow.Fn.Kinds.{In}
 use borrow.Fn.PlainCycle.{Measures, is, falls, and}
 use Rattle.newick.proofs.rows.list.Reads as list
@@ -60,25 +61,41 @@ list-subtree-requires t c κs =
     (omega (arith, c .before .before .before .before .before .before .pre .0, turn .forward), first-here (turn .here))
 
 list-shared-slice-read-byte : (t : ℕ) → list-lts.Need-shared-slice-read-byte (list-calls t) (list-at t) list.Post list-Inv-loop list-μ-loop
-list-shared-slice-read-byte t c = behind-within (c .before .before .before .before .before .before .before .before .loop .inv .here) (c .before .before .before .before .before .subtree .ensures)
+list-shared-slice-read-byte t c =
+    behind-within (c .before .before .before .before .before .before .before .before .loop .inv .here) (c .before .before .before .before .before .subtree .ensures)
 
 list-same-length : (t : ℕ) → list-lts.Need-same-length (list-calls t) (list-at t) list.Post list-Inv-loop list-μ-loop
-list-same-length t c = c .before .before .before .before .before .before .subtree .kept .1 .1 .1 .0 ∙ c .before .before .before .before .before .before .before .before .before .loop .inv .same-table
+list-same-length t c =
+    c .before .before .before .before .before .before .subtree .kept .1 .1 .1 .0
+    ∙ c .before .before .before .before .before .before .before .before .before .loop .inv .same-table
 
 list-same-length-2 : (t : ℕ) → list-lts.Need-same-length-2 (list-calls t) (list-at t) list.Post list-Inv-loop list-μ-loop
-list-same-length-2 t c = c .before .before .before .before .before .before .subtree .kept .1 .1 .1 .1 .0 ∙ c .before .before .before .before .before .before .before .before .before .loop .inv .same-tapes
+list-same-length-2 t c =
+    c .before .before .before .before .before .before .subtree .kept .1 .1 .1 .1 .0
+    ∙ c .before .before .before .before .before .before .before .before .before .loop .inv .same-tapes
 
 list-returns : (t : ℕ) → list-lts.Need-returns (list-calls t) (list-at t) list.Post list-Inv-loop list-μ-loop
-list-returns t c = c .before .before .before .before .before .before .before .before .before .loop .inv .rest (list-last (c .before .before .before .before .before .before .subtree .ensures) (c .if1 .taken))
+list-returns t c =
+    let read = c .before .before .before .before .before .before .subtree .ensures in
+    c .before .before .before .before .before .before .before .before .before .loop .inv .rest (list-last read (c .if1 .taken))
 
 list-cast-store-sibling : (t : ℕ) → list-lts.Need-cast-store-sibling (list-calls t) (list-at t) list.Post list-Inv-loop list-μ-loop
-list-cast-store-sibling t c = record { fits = omega (arith, next-few (c .before .before .before .before .before .before .before .before .before .before .loop .inv .here) (c .before .before .before .before .before .before .before .subtree .ensures)) }
+list-cast-store-sibling t c =
+    let here = c .before .before .before .before .before .before .before .before .before .before .loop .inv .here in
+    let read = c .before .before .before .before .before .before .before .subtree .ensures in
+    record { fits = omega (arith, next-few here read) }
 
 list-store-sibling-requires : (t : ℕ) → list-lts.Need-store-sibling-requires (list-calls t) (list-at t) list.Post list-Inv-loop list-μ-loop
-list-store-sibling-requires t c κs = omega (arith, c .before .before .before .before .before .before .before .before .before .before .loop .inv .here .room .in-table, c .before .before .before .before .before .before .before .subtree .kept .1 .1 .1 .0)
+list-store-sibling-requires t c κs =
+    let here = c .before .before .before .before .before .before .before .before .before .before .loop .inv .here in
+    omega (arith, here .room .in-table, c .before .before .before .before .before .before .before .subtree .kept .1 .1 .1 .0)
 
 list-add-start : (t : ℕ) → list-lts.Need-add-start (list-calls t) (list-at t) list.Post list-Inv-loop list-μ-loop
-list-add-start t c = record { fits = omega (arith, behind-within (c .before .before .before .before .before .before .before .before .before .before .before .before .before .loop .inv .here) (c .before .before .before .before .before .before .before .before .before .before .subtree .ensures), c .before .before .before .before .before .before .before .before .before .before .before .before .before .before .before .before .before .good .0 .0) }
+list-add-start t c =
+    let here = c .before .before .before .before .before .before .before .before .before .before .before .before .before .loop .inv .here in
+    let read = c .before .before .before .before .before .before .before .before .before .before .subtree .ensures in
+    let start = c .before .before .before .before .before .before .before .before .before .before .before .before .before .before .before .before .before in
+    record { fits = omega (arith, behind-within here read, start .good .0 .0) }
 
 list-loop-less : (t : ℕ) → list-lts.Need-loop-less (list-calls t) (list-at t) list.Post list-Inv-loop list-μ-loop
 list-loop-less t c =
@@ -90,7 +107,8 @@ list-loop-again : (t : ℕ) → list-lts.Need-loop-again (list-calls t) (list-at
 list-loop-again t c =
     let read = c .before .before .before .before .before .before .before .before .before .before .subtree in
     let store = c .before .before .store-sibling in
-    next-turn (c .before .before .before .before .before .before .before .before .before .before .before .before .before .loop .inv) (read .ensures) (store .kept .0 ∙ read .kept .1 .1 .1 .0) (read .kept .1 .1 .1 .1 .0) (c .before .before .before .before .if1 .left) (store .ensures)
+    let turn = c .before .before .before .before .before .before .before .before .before .before .before .before .before .loop .inv in
+    next-turn turn (read .ensures) (store .kept .0 ∙ read .kept .1 .1 .1 .0) (read .kept .1 .1 .1 .1 .0) (c .before .before .before .before .if1 .left) (store .ensures)
 
 subtree-shared-slice-read-byte : (t : ℕ) → subtree-lts.Need-shared-slice-read-byte (subtree-calls t) (subtree-at t) subtree.Post
 subtree-shared-slice-read-byte t c = subtree-within (c .before .before .before .before .pre .1)
@@ -105,7 +123,9 @@ subtree-store-pair-requires : (t : ℕ) → subtree-lts.Need-store-pair-requires
 subtree-store-pair-requires t c κs = omega (arith, c .before .before .before .before .before .before .pre .1 .room .in-table)
 
 subtree-add-list : (t : ℕ) → subtree-lts.Need-add-list (subtree-calls t) (subtree-at t) subtree.Post
-subtree-add-list t c = record { fits = omega (arith, subtree-within (c .before .before .before .before .before .before .before .before .before .pre .1), c .before .before .before .before .before .before .before .before .before .good .0 .0) }
+subtree-add-list t c =
+    let start = c .before .before .before .before .before .before .before .before .before in
+    record { fits = omega (arith, subtree-within (start .pre .1), start .good .0 .0) }
 
 subtree-list-requires : (t : ℕ) → subtree-lts.Need-list-requires (subtree-calls t) (subtree-at t) subtree.Post
 subtree-list-requires t c κs =
@@ -117,13 +137,16 @@ subtree-list-requires t c κs =
 subtree-add-read-label : (t : ℕ) → subtree-lts.Need-add-read-label (subtree-calls t) (subtree-at t) subtree.Post
 subtree-add-read-label t c =
     let start = c .before .before .before .before .before .before .before .before .before .before .before .before .before .before .before .before .before in
-    record { fits = omega (arith, inner-label (start .pre .1) (c .before .before .before .before .before .before .before .before .before .before .before .before .if1 .taken) (c .before .before .before .before .before .list .ensures) .ends, start .good .0 .0) }
+    let bracket = c .before .before .before .before .before .before .before .before .before .before .before .before .if1 .taken in
+    let read = c .before .before .before .before .before .list .ensures in
+    record { fits = omega (arith, inner-label (start .pre .1) bracket read .ends, start .good .0 .0) }
 
 subtree-read-label-requires : (t : ℕ) → subtree-lts.Need-read-label-requires (subtree-calls t) (subtree-at t) subtree.Post
 subtree-read-label-requires t c κs =
     let start = c .before .before .before .before .before .before .before .before .before .before .before .before .before .before .before .before .before .before in
     let read = c .before .before .before .before .before .before .list in
-    (inner-label (start .pre .1) (c .before .before .before .before .before .before .before .before .before .before .before .before .before .if1 .taken) (read .ensures), omega (arith, start .pre .1 .room .in-tapes, read .kept .1 .1 .1 .1 .0))
+    let bracket = c .before .before .before .before .before .before .before .before .before .before .before .before .before .if1 .taken in
+    (inner-label (start .pre .1) bracket (read .ensures), omega (arith, start .pre .1 .room .in-tapes, read .kept .1 .1 .1 .1 .0))
 
 subtree-store-pair-requires-2 : (t : ℕ) → subtree-lts.Need-store-pair-requires-2 (subtree-calls t) (subtree-at t) subtree.Post
 subtree-store-pair-requires-2 t c κs = omega (arith, c .before .before .before .before .before .before .pre .1 .room .in-table)
@@ -137,15 +160,19 @@ subtree-add-t31 : (t : ℕ) → subtree-lts.Need-add-t31 (subtree-calls t) (subt
 subtree-add-t31 t c = record { fits = omega (arith, c .before .before .before .before .before .before .before .before .before .before .before .before .before .pre .1 .room .few) }
 
 subtree-same-length : (t : ℕ) → subtree-lts.Need-same-length (subtree-calls t) (subtree-at t) subtree.Post
-subtree-same-length t c = c .before .before .before .before .before .before .before .before .before .list .kept .1 .1 .1 .0 ∙ c .before .before .before .before .before .before .before .before .before .before .before .before .before .before .store-pair .kept .0
+subtree-same-length t c =
+    c .before .before .before .before .before .before .before .before .before .list .kept .1 .1 .1 .0
+    ∙ c .before .before .before .before .before .before .before .before .before .before .before .before .before .before .store-pair .kept .0
 
 subtree-same-length-2 : (t : ℕ) → subtree-lts.Need-same-length-2 (subtree-calls t) (subtree-at t) subtree.Post
 subtree-same-length-2 t c = c .before .before .read-label .kept .1 .1 .1 .0 ∙ c .before .before .before .before .before .before .before .before .before .list .kept .1 .1 .1 .1 .0
 
 subtree-returns : (t : ℕ) → subtree-lts.Need-returns (subtree-calls t) (subtree-at t) subtree.Post
 subtree-returns t c =
-    inner-read (c .before .before .before .before .before .before .before .before .before .before .before .before .before .before .before .before .if1 .taken) (c .before .before .before .before .before .before .before .before .before .before .before .before .before .before .store-pair .ensures) (c .before .before .before .before .before .before .before .before .before .list .ensures)
-    (c .before .before .read-label .ensures .0) (c .before .before .read-label .ensures .1)
+    let bracket = c .before .before .before .before .before .before .before .before .before .before .before .before .before .before .before .before .if1 .taken in
+    let row = c .before .before .before .before .before .before .before .before .before .before .before .before .before .before .store-pair .ensures in
+    let read = c .before .before .before .before .before .before .before .before .before .list .ensures in
+    inner-read bracket row read (c .before .before .read-label .ensures .0) (c .before .before .read-label .ensures .1)
 
 subtree-same-length-3 : (t : ℕ) → subtree-lts.Need-same-length-3 (subtree-calls t) (subtree-at t) subtree.Post
 subtree-same-length-3 t c = c .before .before .before .before .before .before .store-pair2 .kept .0
@@ -154,7 +181,10 @@ subtree-same-length-4 : (t : ℕ) → subtree-lts.Need-same-length-4 (subtree-ca
 subtree-same-length-4 t c = c .before .before .read-label2 .kept .1 .1 .1 .0
 
 subtree-returns-2 : (t : ℕ) → subtree-lts.Need-returns-2 (subtree-calls t) (subtree-at t) subtree.Post
-subtree-returns-2 t c = leaf-read (c .before .before .before .before .before .before .before .before .if1 .left) (c .before .before .before .before .before .before .store-pair2 .ensures) (c .before .before .read-label2 .ensures .0) (c .before .before .read-label2 .ensures .1)
+subtree-returns-2 t c =
+    let other = c .before .before .before .before .before .before .before .before .if1 .left in
+    let row = c .before .before .before .before .before .before .store-pair2 .ensures in
+    leaf-read other row (c .before .before .read-label2 .ensures .0) (c .before .before .read-label2 .ensures .1)
 
 pub +list+subtree-spec : {M : Type 1} → statement M
 +list+subtree-spec = close μ-list μ-subtree (λ t. list-lts.spec (list-calls t)
