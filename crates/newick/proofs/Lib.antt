@@ -8,6 +8,7 @@ pub mod Counted
 pub mod LabelAt
 pub mod Stored
 pub mod Subtrees
+pub mod Lists
 pub mod Linked
 pub mod Answer
 pub mod Numbers

@@ -4,7 +4,7 @@ use Prim.Native.Nat.{ℕ, _+_, _-_, _*_, _<_}
 use native.Mathlib.Omega.{arith}
 use lib.ListN.{length}
 use Rattle.newick.proofs.Subtrees.{subtree-within, inner-list, inner-label, leaf-label, inner-read, leaf-read}
-use Rattle.newick.proofs.Subtrees.{first-here, behind-within, next-few, not-back, list-last, Turn, first-turn, next-turn}
+use Rattle.newick.proofs.Lists.{first-here, behind-within, next-few, not-back, list-last, Turn, first-turn, next-turn}
 use borrow.Fn.Kinds.{In}
 use borrow.Fn.PlainCycle.{Measures, is, falls, and}
 use Rattle.newick.proofs.rows.list.Reads as list
