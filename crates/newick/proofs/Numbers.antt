@@ -56,7 +56,7 @@ module _ (text : List ℕ) (t p : ℕ) where
       with-room few in-table =
           split (2 * nodesOf text) p
           (λ h. says 0 (accepted (nodesOf text) t p some few in-table h)
-          (taken (treeRead text) (text-of text some) short (omega (arith, n, few)) (omega (arith, n, in-table)) (omega (arith, n, h))))
+          (taken (text-of text some) short (omega (arith, n, few)) (omega (arith, n, in-table)) (omega (arith, n, h))))
           (λ h. says 7 (short-tapes (nodesOf text) t p some few in-table h)
           (too-short (treeRead text) (text-of text some) short (omega (arith, n, few)) (inr (omega (arith, n, h)))))
 

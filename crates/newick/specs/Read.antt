@@ -62,9 +62,9 @@ pub data Says (text : List ℕ) (tableLength tapesLength : ℕ) : ℕ → Type 0
   -- 7: a slice is too short for the tree whose text it is
   too-short : (tree : Forest) → IsText tree text → length text ≤ mostBytes → size tree ≤ mostNodes
       → (tableLength < 2 * size tree) ⊎ (tapesLength < 2 * size tree) → Says text tableLength tapesLength 7
-  -- 0: it is the text of a tree, and the slices are long enough
-  taken : (tree : Forest) → IsText tree text → length text ≤ mostBytes → size tree ≤ mostNodes
-      → 2 * size tree ≤ tableLength → 2 * size tree ≤ tapesLength → Says text tableLength tapesLength 0
+  -- 0: it is the text of the tree that is read, and the slices are long enough
+  taken : IsText (treeRead text) text → length text ≤ mostBytes → size (treeRead text) ≤ mostNodes
+      → 2 * size (treeRead text) ≤ tableLength → 2 * size (treeRead text) ≤ tapesLength → Says text tableLength tapesLength 0
 
 -- what `read_newick` promises of its answer and of both slices afterwards
 pub record NewickRead (text table tapes : List ℕ) (answer : Newick) (table′ tapes′ : List ℕ) : Type 0 where

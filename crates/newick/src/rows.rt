@@ -24,7 +24,7 @@ fn store_sibling(table: &mut [u16], node: usize, sibling: u16)
 }
 
 // Reads the subtree that stands at a place; its root has the number `node`.
-pub fn subtree(text: &[u8], at: usize, node: usize, table: &mut [u16], tapes: &mut [u16]) -> Reached
+fn subtree(text: &[u8], at: usize, node: usize, table: &mut [u16], tapes: &mut [u16]) -> Reached
     requires { ⌜ SubtreeHere (now text) at node (now table) (now tapes) ⌝ }
     ensures { λ r. ⌜ SubtreeRead (now (text .entry)) at node (now (table .entry)) (now (tapes .entry)) r (now (table .exit)) (now (tapes .exit)) ⌝ }
 {
