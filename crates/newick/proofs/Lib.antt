@@ -12,4 +12,5 @@ pub mod Lists
 pub mod Linked
 pub mod Answer
 pub mod Numbers
+pub mod Returned
 pub mod Example

@@ -74,6 +74,9 @@ module _ (v : ℕ) (below : Forest) (few : size (node v below nil) ≤ mostNodes
       tableOf-unique (size tree) (numberFrom 0 tree) numbers (rowsFrom 0 tree) (length-rows 0 tree)
       (rows-agree tree 0 (rowsFrom 0 tree) [] [] (sym (append-nil (rowsFrom 0 tree))) refl)
 
+  pub length-links : length (linksOf tree) ≡ 2 * size tree
+  length-links = ap length (sym rows-links) ∙ length-rows 0 tree
+
   -- the table check passes what was read
   pub links-accepted : tableNumber (linksOf tree) ≡ 0
   unfolding linksOf

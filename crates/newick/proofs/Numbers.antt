@@ -18,7 +18,7 @@ use Rattle.newick.proofs.Exact.{text-read}
 use Rattle.newick.proofs.Answer.{too-long, number-of, no-tree, too-many, short-table, short-tapes, accepted}
 
 -- the nodes of a text are those of its tree
-nodes-text : (tree : Forest) (text : List ℕ) → IsText tree text → nodesOf text ≡ size tree
+pub nodes-text : (tree : Forest) (text : List ℕ) → IsText tree text → nodesOf text ≡ size tree
 unfolding nodesOf
 nodes-text tree text t = ap size (text-read tree text t)
 
