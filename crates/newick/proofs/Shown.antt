@@ -3,7 +3,7 @@
 use mathlib.Core.Path.{_≡_, refl, sym, ap, ap₂, _∙_, subst}
 use Prim.Native.Nat.{ℕ, _+_, _-_, _*_}
 use native.Mathlib.Omega.{arith}
-use mathlib.Core.Bool.{Bool, true, false, cond}
+use mathlib.Core.Bool.{Bool, true, false}
 use mathlib.Core.List.{List, [], _∷_, _++_, append-assoc, append-nil}
 use lib.Dec.{eqb, leb}
 use borrow.Author.Tests.{eqb-true, eqb-false, leb-true}
@@ -79,19 +79,14 @@ module _ (v : ℕ) (below : Forest) where
 
 -- ---- one byte more
 
--- where a test decides between a reading and a broken text
-shows-if : (b : Bool) (state : Reading) (text : List ℕ) → (b ≡ true → Shows state text) → Shows (cond b state broken) text
-shows-if true state text h = h refl
-shows-if false state text h = tt
-
--- and between two readings
-shows-either : (b : Bool) (x y : Reading) (text : List ℕ) → (b ≡ true → Shows x text) → (b ≡ false → Shows y text) → Shows (cond b x y) text
-shows-either true x y text h k = h refl
-shows-either false x y text h k = k refl
+-- by what a test says
+either : {X : Type 0} (b : Bool) → (b ≡ true → X) → (b ≡ false → X) → X
+either true h k = h refl
+either false h k = k refl
 
 begun-shows : (rows : List Forest) (below : Forest) (text : List ℕ) (byte : ℕ) → text ≡ up-to-label rows below → All Labels rows → Labels below
     → Shows (begun rows below byte) (text ++ byte ∷ [])
-begun-shows rows below text byte e l m = shows-if (isDigit byte) (label rows below (byte - zeroByte)) (text ++ byte ∷ []) digit
+begun-shows rows below text byte e l m = either (isDigit byte) (λ h. simp h (digit h)) (λ h. simp h tt)
   where
     digit : isDigit byte ≡ true → Shows (label rows below (byte - zeroByte)) (text ++ byte ∷ [])
     digit h =
@@ -101,10 +96,8 @@ begun-shows rows below text byte e l m = shows-if (isDigit byte) (label rows bel
 lengthened-shows : (rows : List Forest) (below : Forest) (v : ℕ) (text : List ℕ) (byte : ℕ) → isDigit byte ≡ true
     → Shows (label rows below v) text → Shows (lengthened rows below v (byte - zeroByte)) (text ++ byte ∷ [])
 lengthened-shows rows below v text byte h s =
-    shows-either (eqb v 0) broken (cond (leb (10 * v + (byte - zeroByte)) mostLabel) (label rows below (10 * v + (byte - zeroByte))) broken)
-    (text ++ byte ∷ [])
-    (λ z. tt)
-    (λ z. shows-if (leb (10 * v + (byte - zeroByte)) mostLabel) (label rows below (10 * v + (byte - zeroByte))) (text ++ byte ∷ []) (more z))
+    either (eqb v 0) (λ z. simp z tt)
+    (λ z. either (leb (10 * v + (byte - zeroByte)) mostLabel) (λ f. simp (z, f) (more z f)) (λ f. simp (z, f) tt))
   where
     more : eqb v 0 ≡ false → leb (10 * v + (byte - zeroByte)) mostLabel ≡ true → Shows (label rows below (10 * v + (byte - zeroByte))) (text ++ byte ∷ [])
     more z fits =
@@ -117,7 +110,7 @@ lengthened-shows rows below v text byte h s =
 
 parted-shows : (rows : List Forest) (below : Forest) (v : ℕ) (text : List ℕ) (byte : ℕ) → Shows (label rows below v) text
     → Shows (parted rows (node v below nil) byte) (text ++ byte ∷ [])
-parted-shows [] below v text byte s = shows-if (eqb byte semicolon) (ended (node v below nil)) (text ++ byte ∷ []) whole
+parted-shows [] below v text byte s = either (eqb byte semicolon) (λ h. simp h (whole h)) (λ h. simp h tt)
   where
     whole : eqb byte semicolon ≡ true → Shows (ended (node v below nil)) (text ++ byte ∷ [])
     whole h = record {
@@ -128,11 +121,8 @@ parted-shows [] below v text byte s = shows-if (eqb byte semicolon) (ended (node
       labels = s .1 .1;
     }
 parted-shows (row ∷ rows) below v text byte s =
-    shows-either (eqb byte comma) (due (join row (node v below nil) ∷ rows))
-    (cond (eqb byte closing) (closed rows (join row (node v below nil))) broken)
-    (text ++ byte ∷ [])
-    after-comma
-    (λ n. shows-if (eqb byte closing) (closed rows (join row (node v below nil))) (text ++ byte ∷ []) after-closing)
+    either (eqb byte comma) (λ h. simp h (after-comma h))
+    (λ n. either (eqb byte closing) (λ h. simp (n, h) (after-closing h)) (λ h. simp (n, h) tt))
   where
     labels : Labels (join row (node v below nil))
     labels = labels-more v below row (s .1 .0 .0) (s .1 .1)
@@ -165,14 +155,12 @@ parted-shows (row ∷ rows) below v text byte s =
 next-shows : (state : Reading) (text : List ℕ) (byte : ℕ) → Shows state text → Shows (next state byte) (text ++ byte ∷ [])
 unfolding next
 next-shows (due rows) text byte s =
-    shows-either (eqb byte opening) (due (nil ∷ rows)) (begun rows nil byte) (text ++ byte ∷ [])
-    (λ h. (ap₂ (λ (t : List ℕ) (b : ℕ). t ++ b ∷ []) (s .0) (eqb-true byte opening h), (tt, s .1)))
-    (λ n. begun-shows rows nil text byte (s .0 ∙ sym (append-nil (before rows))) (s .1) tt)
+    either (eqb byte opening)
+    (λ h. simp h (ap₂ (λ (t : List ℕ) (b : ℕ). t ++ b ∷ []) (s .0) (eqb-true byte opening h), (tt, s .1)))
+    (λ n. simp n (begun-shows rows nil text byte (s .0 ∙ sym (append-nil (before rows))) (s .1) tt))
 next-shows (closed rows below) text byte s = begun-shows rows below text byte (s .0) (s .1 .0) (s .1 .1)
 next-shows (label rows below v) text byte s =
-    shows-either (isDigit byte) (lengthened rows below v (byte - zeroByte)) (parted rows (node v below nil) byte) (text ++ byte ∷ [])
-    (λ h. lengthened-shows rows below v text byte h s)
-    (λ n. parted-shows rows below v text byte s)
+    either (isDigit byte) (λ h. simp h (lengthened-shows rows below v text byte h s)) (λ n. simp n (parted-shows rows below v text byte s))
 next-shows (ended tree) text byte s = tt
 next-shows broken text byte s = tt
 
