@@ -1,5 +1,5 @@
 -- Digits, and a number with one digit more. Assumes nothing.
-use mathlib.Core.Path.{_≡_, ap, ap₂, _∙_}
+use mathlib.Core.Path.{_≡_, ap, ap₂, _∙_, subst⁻¹}
 use Prim.Native.Nat.{ℕ, _+_, _-_, _*_, _/_, _%_, _≤_, _<_}
 use native.Mathlib.Omega.{arith}
 use mathlib.Core.Bool.{true, false, _&&_}
@@ -8,7 +8,8 @@ use lib.Dec.{leb}
 use borrow.Author.Tests.{le-leb, lt-leb, leb-true}
 use Rattle.refusal.proofs.Truth.{and-left, and-right}
 use Rattle.lines.specs.Decimal.{zeroByte, digit, decimal}
-use Rattle.lines.proofs.Decimal.{decimal-small, decimal-large}
+use Rattle.lines.proofs.Decimal.{by-tens, decimal-small, decimal-large}
+use Rattle.tree.proofs.Counting.{All, all-append}
 use Rattle.newick.specs.Reading.{isDigit}
 
 pub is-digit : (byte : ℕ) → zeroByte ≤ byte → byte ≤ digit 9 → isDigit byte ≡ true
@@ -48,3 +49,15 @@ decimal-more v byte some h =
 
     rest : (v d : ℕ) → d < 10 → (10 * v + d) % 10 ≡ d
     rest v d h = omega arith
+
+-- a number is written in digits
+pub decimal-digits : (v : ℕ) → All (λ byte. isDigit byte ≡ true) (decimal v)
+decimal-digits = by-tens (λ v. All (λ byte. isDigit byte ≡ true) (decimal v)) small large
+  where
+    small : (v : ℕ) → v < 10 → All (λ byte. isDigit byte ≡ true) (decimal v)
+    small v h = subst⁻¹ (All (λ byte. isDigit byte ≡ true)) (decimal-small v h) (is-digit (digit v) (omega arith) (omega arith), tt)
+
+    large : (v : ℕ) → 10 ≤ v → All (λ byte. isDigit byte ≡ true) (decimal (v / 10)) → All (λ byte. isDigit byte ≡ true) (decimal v)
+    large v h before =
+        subst⁻¹ (All (λ byte. isDigit byte ≡ true)) (decimal-large v h)
+        (all-append (λ byte. isDigit byte ≡ true) (decimal (v / 10)) (digit (v % 10) ∷ []) before (is-digit (digit (v % 10)) (omega arith) (omega arith), tt))

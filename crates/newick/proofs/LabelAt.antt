@@ -1,18 +1,19 @@
 -- The label at a place of a text: digit by digit, and of a number's digits. Assumes nothing.
-use mathlib.Core.Path.{_≡_, sym, ap, _∙_}
-use Prim.Native.Nat.{ℕ, suc, _+_, _-_, _*_, _/_, _%_, _≤_, _<_}
+use mathlib.Core.Path.{_≡_, refl, sym, ap, _∙_}
+use Prim.Native.Nat.{ℕ, suc, _+_, _-_, _*_, _≤_, _<_}
 use native.Mathlib.Numerals.{add-one}
 use native.Mathlib.Omega.{arith}
 use mathlib.Core.Bool.{Bool, true, false, cond}
 use mathlib.Core.List.{List, [], _∷_, _++_}
 use lib.ListN.{length, getD, drop}
-use lib.Seq.{drop-cons, append-snoc}
-use Rattle.lines.specs.Decimal.{zeroByte, digit, decimal}
-use Rattle.lines.proofs.Decimal.{by-tens, decimal-small, decimal-large, size-small, size-large}
+use lib.Seq.{drop-cons}
+use Rattle.lines.specs.Decimal.{zeroByte, digit, decimal, valueAfter}
+use Rattle.lines.proofs.ReadBack.{read-back}
+use Rattle.tree.proofs.Counting.{All}
 use Rattle.newick.specs.Text.{mostLabel}
 use Rattle.newick.specs.Reading.{isDigit}
 use Rattle.newick.specs.Steps.{leading, labelAfter, labelAt, LabelHere}
-use Rattle.newick.proofs.Digits.{is-digit, digit-low, digit-high}
+use Rattle.newick.proofs.Digits.{digit-low, digit-high, decimal-digits}
 
 -- ---- the first byte
 
@@ -105,51 +106,24 @@ module _ (text : List ℕ) (at value end : ℕ) (here : LabelHere text at) (pass
 
 -- ---- a number's digits
 
-leading-decimal : (v : ℕ) (more : List ℕ) → leading (decimal v ++ more) ≡ length (decimal v) + leading more
-leading-decimal = by-tens (λ v. (more : List ℕ) → leading (decimal v ++ more) ≡ length (decimal v) + leading more) small large
-  where
-    small : (v : ℕ) → v < 10 → (more : List ℕ) → leading (decimal v ++ more) ≡ length (decimal v) + leading more
-    small v h more =
-        omega (
-          arith,
-          ap (λ (l : List ℕ). leading (l ++ more)) (decimal-small v h) ∙ leading-more (digit v) more (is-digit (digit v) (omega arith) (omega arith)),
-          size-small v h,
-        )
+leading-digits : (digits more : List ℕ) → All (λ byte. isDigit byte ≡ true) digits → leading (digits ++ more) ≡ length digits + leading more
+leading-digits [] more a = omega arith
+leading-digits (byte ∷ digits) more a = omega (arith, leading-more byte (digits ++ more) (a .0), leading-digits digits more (a .1))
 
-    large : (v : ℕ) → 10 ≤ v → ((more : List ℕ) → leading (decimal (v / 10) ++ more) ≡ length (decimal (v / 10)) + leading more)
-        → (more : List ℕ) → leading (decimal v ++ more) ≡ length (decimal v) + leading more
-    large v h before more =
-        omega (
-          arith,
-          ap (λ (l : List ℕ). leading (l ++ more)) (decimal-large v h)
-              ∙ ap leading (append-snoc (decimal (v / 10)) (digit (v % 10)) more)
-              ∙ before (digit (v % 10) ∷ more),
-          leading-more (digit (v % 10)) more (is-digit (digit (v % 10)) (omega arith) (omega arith)),
-          size-large v h,
-        )
-
-label-decimal : (v : ℕ) (more : List ℕ) → labelAfter 0 (decimal v ++ more) ≡ labelAfter v more
-label-decimal = by-tens (λ v. (more : List ℕ) → labelAfter 0 (decimal v ++ more) ≡ labelAfter v more) small large
-  where
-    small : (v : ℕ) → v < 10 → (more : List ℕ) → labelAfter 0 (decimal v ++ more) ≡ labelAfter v more
-    small v h more =
-        ap (λ (l : List ℕ). labelAfter 0 (l ++ more)) (decimal-small v h)
-        ∙ label-more 0 (digit v) more (is-digit (digit v) (omega arith) (omega arith))
-        ∙ ap (λ (m : ℕ). labelAfter m more) (omega arith)
-
-    large : (v : ℕ) → 10 ≤ v → ((more : List ℕ) → labelAfter 0 (decimal (v / 10) ++ more) ≡ labelAfter (v / 10) more)
-        → (more : List ℕ) → labelAfter 0 (decimal v ++ more) ≡ labelAfter v more
-    large v h before more =
-        ap (λ (l : List ℕ). labelAfter 0 (l ++ more)) (decimal-large v h)
-        ∙ ap (labelAfter 0) (append-snoc (decimal (v / 10)) (digit (v % 10)) more)
-        ∙ before (digit (v % 10) ∷ more)
-        ∙ label-more (v / 10) (digit (v % 10)) more (is-digit (digit (v % 10)) (omega arith) (omega arith))
-        ∙ ap (λ (m : ℕ). labelAfter m more) (omega arith)
+label-digits : (m : ℕ) (digits more : List ℕ) → All (λ byte. isDigit byte ≡ true) digits
+    → labelAfter m (digits ++ more) ≡ labelAfter (valueAfter m digits) more
+unfolding valueAfter
+label-digits m [] more a = refl
+label-digits m (byte ∷ digits) more a = label-more m byte (digits ++ more) (a .0) ∙ label-digits (10 * m + (byte - zeroByte)) digits more (a .1)
 
 -- where a number's digits stand at a place, and then a byte that is no digit
 module _ (text : List ℕ) (at v byte : ℕ) (more : List ℕ) (here : drop at text ≡ decimal v ++ byte ∷ more) (ends : isDigit byte ≡ false) where
   pub leading-here : leading (drop at text) ≡ length (decimal v)
-  leading-here = omega (arith, ap leading here ∙ leading-decimal v (byte ∷ more), leading-none byte more ends)
+  leading-here = omega (arith, ap leading here ∙ leading-digits (decimal v) (byte ∷ more) (decimal-digits v), leading-none byte more ends)
 
   pub label-here : labelAt text at ≡ v
-  label-here = ap (labelAfter 0) here ∙ label-decimal v (byte ∷ more) ∙ label-none v byte more ends
+  label-here =
+      ap (labelAfter 0) here
+      ∙ label-digits 0 (decimal v) (byte ∷ more) (decimal-digits v)
+      ∙ ap (λ (m : ℕ). labelAfter m (byte ∷ more)) (read-back v)
+      ∙ label-none v byte more ends

@@ -1,17 +1,20 @@
 -- Of what a call of `read_newick` returns. Assumes nothing.
-use mathlib.Core.Path.{_≡_, sym, ap, _∙_, subst, subst⁻¹}
-use Prim.Native.Nat.{ℕ, _*_, _≤_}
+use mathlib.Core.Path.{_≡_, sym, ap, ap₂, _∙_, subst, subst⁻¹}
+use Prim.Native.Nat.{ℕ, _+_, _*_, _≤_, _<_}
+use native.Mathlib.Omega.{arith}
 use mathlib.Core.List.{List}
-use lib.ListN.{length, take}
+use lib.ListN.{length, getD, take, drop, List·getD-append}
 use Rattle.refusal.specs.After.{overwrite}
 use Rattle.refusal.proofs.After.{granted-accepted, granted-refused, after-accepted, after-refused, take-overwrite}
-use Rattle.tree.specs.Forest.{Forest, nil, node, treeOf, size}
+use Rattle.lines.specs.Listing.{tapeNumber}
+use Rattle.tree.specs.Forest.{Forest, nil, node, treeOf, size, preorder}
 use Rattle.tree.specs.WellFormed.{tableNumber}
 use Rattle.tree.specs.Operations.{numberFrom, renumbered}
 use Rattle.newick.specs.Text.{IsText}
 use Rattle.newick.specs.Reading.{treeRead}
 use Rattle.newick.specs.Read.{mostBytes, mostNodes, nodesOf, linksOf, tapesOf, refusal, Says, NewickRead}
 use Rattle.newick.specs.declared.Newick.{Newick}
+use Rattle.newick.proofs.Stored.{length-tapes, tape-label}
 use Rattle.newick.proofs.Linked.{length-links, links-accepted, links-tree, links-renumbered}
 use Rattle.newick.proofs.Numbers.{nodes-text, text-accepted, number-says}
 
@@ -68,3 +71,12 @@ module _ (text table tapes : List ℕ) (r : Newick) (table′ tapes′ : List �
         ap renumbered table-returned
         ∙ subst⁻¹ (λ (f : Forest). renumbered (linksOf f) ≡ linksOf f) (is .is-tree) (links-renumbered (is .root) (is .below) fewer)
         ∙ sym table-returned
+
+    -- the tape number of node k is the label of the tree's k-th node in preorder
+    pub label-returned : (k : ℕ) → k < size tree → tapeNumber tapes′ k ≡ getD (preorder tree) k 0
+    unfolding overwrite
+    label-returned k h =
+        let stored : (i : ℕ) → i < 2 * size tree → getD tapes′ i 0 ≡ getD (tapesOf tree) i 0 =
+        λ i l. ap (λ (s : List ℕ). getD s i 0) (text-returned .3)
+        ∙ List·getD-append (tapesOf tree) (drop (length (tapesOf tree)) tapes) 0 i (omega (arith, length-tapes tree, l)) in
+        ap₂ (λ (x y : ℕ). x + 65536 * y) (stored (2 * k) (omega arith)) (stored (2 * k + 1) (omega arith)) ∙ tape-label tree k h

@@ -1,16 +1,20 @@
 -- What a list of subtrees stores in a slice, numbered from k on. Assumes nothing.
 use mathlib.Core.Path.{_≡_, refl, sym, ap, _∙_}
-use Prim.Native.Nat.{ℕ, suc, _+_, _*_, _≤_}
+use Prim.Native.Nat.{ℕ, zero, suc, _+_, _*_, _/_, _%_, _≤_, _<_}
+use native.Mathlib.Nat.{not-suc-le-zero, le-of-suc-le-suc}
 use native.Mathlib.Numerals.{add-one}
 use native.Mathlib.Omega.{arith}
 use mathlib.Core.List.{List, [], _∷_, _++_, append-assoc, append-nil}
-use lib.ListN.{length, set, length-append}
+use lib.ListN.{length, getD, set, length-append}
 use lib.Seq.{sets, set-set}
 use Rattle.refusal.proofs.After.{sets-append}
 use Rattle.lines.proofs.Put.{sets-late}
+use Rattle.lines.specs.Listing.{tapeNumber}
+use Rattle.tree.specs.Numbers.{flatMap}
 use Rattle.tree.specs.Table.{none}
 use Rattle.tree.specs.Forest.{Forest, nil, node, size, entry, preorder}
 use Rattle.tree.specs.Operations.{numberFrom}
+use Rattle.tree.proofs.Reading.{size-preorder}
 use Rattle.tree.proofs.TableOf.{flatMap-append}
 use Rattle.newick.specs.Read.{words, tapesOf}
 use Rattle.newick.specs.Steps.{rowsFrom}
@@ -109,3 +113,25 @@ module _ (k v : ℕ) (f : Forest) where
           (tapes-node v f nil ∙ ap (λ (l : List ℕ). words v ++ (tapesOf f ++ l)) tapes-none ∙ ap (λ (l : List ℕ). words v ++ l) (append-nil (tapesOf f)))
           ∙ append-assoc (words v) (tapesOf f) (tapesOf g)
           ∙ sym (tapes-node v f g)
+
+-- ---- the words stand for the labels
+
+-- entries 2k and 2k + 1 of the words of a list
+words-at : (l : List ℕ) (k : ℕ) → k < length l
+    → (getD (flatMap words l) (2 * k) 0 ≡ getD l k 0 % 65536) × (getD (flatMap words l) (2 * k + 1) 0 ≡ getD l k 0 / 65536)
+words-at [] k h = absurd (not-suc-le-zero h)
+words-at (v ∷ l) zero h = (refl, refl)
+words-at (v ∷ l) (suc k) h =
+    let at = words-at l k (le-of-suc-le-suc h) in
+    let low : 2 * suc k ≡ suc (suc (2 * k)) = omega arith in
+    let high : 2 * suc k + 1 ≡ suc (suc (2 * k + 1)) = omega arith in (
+      ap (λ (i : ℕ). getD (words v ++ flatMap words l) i 0) low ∙ at .0,
+      ap (λ (i : ℕ). getD (words v ++ flatMap words l) i 0) high ∙ at .1,
+    )
+
+-- the tape number of node k is the label of the k-th node in preorder
+pub tape-label : (f : Forest) (k : ℕ) → k < size f → tapeNumber (tapesOf f) k ≡ getD (preorder f) k 0
+unfolding tapesOf
+tape-label f k h =
+    let at = words-at (preorder f) k (omega (arith, size-preorder f)) in
+    omega (arith, at .0, at .1)

@@ -1,7 +1,7 @@
 -- A subtree at a place of a text that is known to be right: what `subtree` needs there, and what it gives. Assumes nothing.
 use mathlib.Core.Path.{_≡_, refl, sym, ap, _∙_, subst}
-use Prim.Native.Nat.{ℕ, _+_, _*_, _/_, _%_, _≤_, _<_}
-use native.Mathlib.Nat.{add-zero}
+use Prim.Native.Nat.{ℕ, _+_, _*_, _≤_, _<_}
+use native.Mathlib.Nat.{add-zero, not-suc-le-zero}
 use native.Mathlib.Omega.{arith}
 use mathlib.Core.Bool.{true, false, true≢false}
 use mathlib.Core.List.{List, [], _∷_, _++_, append-assoc, append-nil}
@@ -9,7 +9,8 @@ use lib.ListN.{length, getD, drop, length-drop, length-append}
 use borrow.Author.Tests.{eqb-false}
 use lib.Seq.{sets, drop-drop, drop-append-seam, getD-drop}
 use Rattle.lines.specs.Decimal.{digit, decimal}
-use Rattle.lines.proofs.Decimal.{by-tens, decimal-small, decimal-large}
+use Rattle.lines.proofs.ReadBack.{some-digit}
+use Rattle.tree.proofs.Counting.{All}
 use Rattle.tree.specs.Table.{none}
 use Rattle.tree.specs.Forest.{Forest, nil, node, size}
 use Rattle.newick.specs.Text.{opening, closing, comma, mostLabel, Labels, subtreeText, listText}
@@ -17,7 +18,7 @@ use Rattle.newick.specs.Reading.{isDigit}
 use Rattle.newick.specs.Read.{words}
 use Rattle.newick.specs.Steps.{leading, labelAt, LabelHere, rowsFrom, Stands, Stops, Room, SubtreeHere, ListHere, RowsRead, SubtreeRead, ListRead}
 use Rattle.newick.specs.declared.rows.Reached.{Reached}
-use Rattle.newick.proofs.Digits.{is-digit}
+use Rattle.newick.proofs.Digits.{decimal-digits}
 use Rattle.newick.proofs.LabelAt.{leading-here, label-here}
 use Rattle.newick.proofs.Stored.{rows-inner, tapes-inner, rows-leaf, tapes-leaf}
 
@@ -41,18 +42,11 @@ record Front (l : List ℕ) : Type 0 where
   is : isDigit byte ≡ true
 
 decimal-front : (v : ℕ) → Front (decimal v)
-decimal-front = by-tens (λ v. Front (decimal v)) small large
+decimal-front v = front (decimal v) (some-digit v) (decimal-digits v)
   where
-    small : (v : ℕ) → v < 10 → Front (decimal v)
-    small v h = record { byte = digit v; rest = []; front = decimal-small v h; is = is-digit (digit v) (omega arith) (omega arith) }
-
-    large : (v : ℕ) → 10 ≤ v → Front (decimal (v / 10)) → Front (decimal v)
-    large v h before = record {
-      byte = before .byte;
-      rest = before .rest ++ digit (v % 10) ∷ [];
-      front = decimal-large v h ∙ ap (λ (l : List ℕ). l ++ digit (v % 10) ∷ []) (before .front);
-      is = before .is;
-    }
+    front : (l : List ℕ) → 0 < length l → All (λ byte. isDigit byte ≡ true) l → Front l
+    front [] some a = absurd (not-suc-le-zero some)
+    front (byte ∷ l) some a = record { byte = byte; rest = l; front = refl; is = a .0 }
 
 -- ---- a label
 
