@@ -77,6 +77,11 @@ number-fits n t p e =
 
 -- ---- the promise
 
+-- where a text has nodes, it is that of the tree to which it is read
+pub text-of : (text : List ℕ) → (nodesOf text ≡ 0 → ⊥) → IsText (treeRead text) text
+unfolding nodesOf
+text-of text some = read-text text (λ e. some (ap size e))
+
 module _ (text table tapes : List ℕ) where
   -- from what the steps gave: the count n, and the number k
   module _ {n k : ℕ} (is : n ≡ nodesOf text) (e : k ≡ treeNumber n (length table) (length tapes)) where
@@ -99,8 +104,7 @@ module _ (text table tapes : List ℕ) where
 
   module _ (fits : Fits (nodesOf text) (length table) (length tapes)) where
     whole : IsText (treeRead text) text
-    unfolding nodesOf
-    whole = read-text text (λ e. fits .some (ap size e))
+    whole = text-of text (fits .some)
 
     abbrev tree : Forest
     tree = node (whole .root) (whole .below) nil

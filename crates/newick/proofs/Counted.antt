@@ -1,4 +1,4 @@
--- The first pass is reading with counts in place of trees, and its counts are no greater than the bytes that it has passed.
+-- The first pass is reading with counts in place of trees, and a byte adds one to its counts at most.
 -- Assumes nothing.
 use mathlib.Core.Path.{_≡_, refl, sym, ap, ap₂, _∙_}
 use Prim.Native.Nat.{ℕ, zero, suc, _+_, _-_, _*_, _≤_, _<_}
@@ -9,16 +9,16 @@ use mathlib.Core.Bool.{Bool, true, false, cond}
 use mathlib.Core.List.{List, [], _∷_}
 use lib.Dec.{eqb, leb}
 use lib.ListN.{length, getD, drop}
-use lib.Seq.{drop-cons, drop-length}
-use borrow.Author.Tests.{eq-eqb, ne-eqb}
+use lib.Seq.{drop-length}
 use Rattle.lines.specs.Decimal.{zeroByte}
 use Rattle.tree.specs.Forest.{Forest, nil, node, join, size}
 use Rattle.tree.proofs.Joined.{size-join}
+use Rattle.tree.proofs.Places.{from-place}
 use Rattle.newick.specs.Text.{opening, closing, comma, semicolon, mostLabel}
 use Rattle.newick.specs.Reading as reading
 use Rattle.newick.specs.Reading.{Reading, due, closed, label, ended, broken, isDigit, next, reading, whole, treeRead}
 use Rattle.newick.specs.Read.{nodesOf}
-use Rattle.newick.specs.Steps.{begun, lengthened, parted, step, steps, counted, Within}
+use Rattle.newick.specs.Steps.{begun, lengthened, parted, step, steps, counted, counts}
 use Rattle.newick.specs.declared.judge.Scan.{Scan}
 use Rattle.newick.specs.declared.judge.Scan.the-variants.{Due, Closed, Label, Ended, Broken}
 
@@ -103,8 +103,7 @@ nodes-counted text = ap counted (sym (seen-reading (due []) text)) ∙ counted-s
 pub step-at : (text : List ℕ) (scan : Scan) (at : ℕ) → at < length text
     → steps scan (drop at text) ≡ steps (step scan (getD text at 0)) (drop (at + 1) text)
 unfolding steps
-step-at text scan at h =
-    ap (steps scan) (drop-cons text at 0 h) ∙ ap (λ (k : ℕ). steps (step scan (getD text at 0)) (drop k text)) (sym (add-one at))
+step-at text scan at h = ap (steps scan) (from-place text at 0 h)
 
 pub steps-end : (text : List ℕ) (scan : Scan) (at : ℕ) → length text ≤ at → at ≤ length text → steps scan (drop at text) ≡ scan
 unfolding steps
@@ -112,82 +111,54 @@ steps-end text scan at h k = ap (steps scan) (ap (λ (i : ℕ). drop i text) (le
 
 -- ---- counts and bytes
 
-within-cond : (k : ℕ) (b : Bool) (x y : Scan) → Within k x → Within k y → Within k (cond b x y)
-within-cond k true x y p q = p
-within-cond k false x y p q = q
+counts-cond : (k : ℕ) (b : Bool) (x y : Scan) → counts x ≤ k → counts y ≤ k → counts (cond b x y) ≤ k
+counts-cond k true x y p q = p
+counts-cond k false x y p q = q
 
-within-begun : (k depth nodes byte : ℕ) → Within k (Due depth nodes) → Within (k + 1) (begun depth nodes byte)
-within-begun k depth nodes byte w =
-    within-cond (k + 1) (isDigit byte) (Label depth (nodes + 1) (byte - zeroByte)) Broken (omega (arith, w .0), omega (arith, w .1)) tt
+counts-begun : (depth nodes byte : ℕ) → counts (begun depth nodes byte) ≤ depth + nodes + 1
+counts-begun depth nodes byte =
+    counts-cond (depth + nodes + 1) (isDigit byte) (Label depth (nodes + 1) (byte - zeroByte)) Broken (omega arith) (omega arith)
 
-within-lengthened : (k depth nodes value d : ℕ) → Within k (Due depth nodes) → Within (k + 1) (lengthened depth nodes value d)
-within-lengthened k depth nodes value d w =
-    within-cond (k + 1) (eqb value 0) Broken (cond (leb (10 * value + d) mostLabel) (Label depth nodes (10 * value + d)) Broken) tt
-    (within-cond (k + 1) (leb (10 * value + d) mostLabel) (Label depth nodes (10 * value + d)) Broken (omega (arith, w .0), omega (arith, w .1)) tt)
+counts-lengthened : (depth nodes value d : ℕ) → counts (lengthened depth nodes value d) ≤ depth + nodes + 1
+counts-lengthened depth nodes value d =
+    counts-cond (depth + nodes + 1) (eqb value 0) Broken (cond (leb (10 * value + d) mostLabel) (Label depth nodes (10 * value + d)) Broken) (omega arith)
+    (counts-cond (depth + nodes + 1) (leb (10 * value + d) mostLabel) (Label depth nodes (10 * value + d)) Broken (omega arith) (omega arith))
 
-within-parted : (k depth nodes byte : ℕ) → Within k (Due depth nodes) → Within (k + 1) (parted depth nodes byte)
-within-parted k zero nodes byte w = within-cond (k + 1) (eqb byte semicolon) (Ended nodes) Broken (omega (arith, w .1)) tt
-within-parted k (suc depth) nodes byte w =
-    within-cond (k + 1) (eqb byte comma) (Due (suc depth) nodes) (cond (eqb byte closing) (Closed depth nodes) Broken) (omega (arith, w .0), omega (arith, w .1))
-    (within-cond (k + 1) (eqb byte closing) (Closed depth nodes) Broken (omega (arith, w .0), omega (arith, w .1)) tt)
+counts-parted : (depth nodes byte : ℕ) → counts (parted depth nodes byte) ≤ depth + nodes + 1
+counts-parted zero nodes byte = counts-cond (0 + nodes + 1) (eqb byte semicolon) (Ended nodes) Broken (omega arith) (omega arith)
+counts-parted (suc depth) nodes byte =
+    counts-cond (suc depth + nodes + 1) (eqb byte comma) (Due (suc depth) nodes) (cond (eqb byte closing) (Closed depth nodes) Broken) (omega arith)
+    (counts-cond (suc depth + nodes + 1) (eqb byte closing) (Closed depth nodes) Broken (omega arith) (omega arith))
 
-pub within-step : (k : ℕ) (scan : Scan) (byte : ℕ) → Within k scan → Within (k + 1) (step scan byte)
+-- a byte adds one at most
+pub counts-step : (scan : Scan) (byte : ℕ) → counts (step scan byte) ≤ counts scan + 1
 unfolding step
-within-step k (Due depth nodes) byte w =
-    within-cond (k + 1) (eqb byte opening) (Due (depth + 1) nodes) (begun depth nodes byte) (omega (arith, w .0), omega (arith, w .1))
-    (within-begun k depth nodes byte w)
-within-step k (Closed depth nodes) byte w = within-begun k depth nodes byte w
-within-step k (Label depth nodes value) byte w =
-    within-cond (k + 1) (isDigit byte) (lengthened depth nodes value (byte - zeroByte)) (parted depth nodes byte)
-    (within-lengthened k depth nodes value (byte - zeroByte) w)
-    (within-parted k depth nodes byte w)
-within-step k (Ended nodes) byte w = tt
-within-step k Broken byte w = tt
-
-pub within-mono : (j k : ℕ) (scan : Scan) → j ≤ k → Within j scan → Within k scan
-within-mono j k (Due depth nodes) h w = (omega (arith, w .0), omega (arith, w .1))
-within-mono j k (Closed depth nodes) h w = (omega (arith, w .0), omega (arith, w .1))
-within-mono j k (Label depth nodes value) h w = (omega (arith, w .0), omega (arith, w .1))
-within-mono j k (Ended nodes) h w = omega (arith, w)
-within-mono j k Broken h w = tt
+counts-step (Due depth nodes) byte =
+    counts-cond (depth + nodes + 1) (eqb byte opening) (Due (depth + 1) nodes) (begun depth nodes byte) (omega arith) (counts-begun depth nodes byte)
+counts-step (Closed depth nodes) byte = counts-begun depth nodes byte
+counts-step (Label depth nodes value) byte =
+    counts-cond (depth + nodes + 1) (isDigit byte) (lengthened depth nodes value (byte - zeroByte)) (parted depth nodes byte)
+    (counts-lengthened depth nodes value (byte - zeroByte))
+    (counts-parted depth nodes byte)
+counts-step (Ended nodes) byte = omega arith
+counts-step Broken byte = omega arith
 
 -- ---- the arms of one step
 
-module _ (scan r : Scan) (depth nodes byte : ℕ) where
-  pub step-opening : scan ≡ Due depth nodes → byte ≡ opening → Due (depth + 1) nodes ≡ step scan byte
-  unfolding step
-  step-opening s e = sym (ap (λ (x : Scan). step x byte) s ∙ ap (λ (b : Bool). cond b (Due (depth + 1) nodes) (begun depth nodes byte)) (eq-eqb byte opening e))
+-- where the state is known
+pub step-of : (scan state r : Scan) (byte : ℕ) → scan ≡ state → r ≡ step state byte → r ≡ step scan byte
+step-of scan state r byte s e = e ∙ sym (ap (λ (x : Scan). step x byte) s)
 
-  pub step-due : scan ≡ Due depth nodes → (byte ≡ opening → ⊥) → r ≡ begun depth nodes byte → r ≡ step scan byte
+-- and what the test said
+module _ (r : Scan) (depth nodes byte : ℕ) (b : Bool) where
+  pub step-due : eqb byte opening ≡ b → r ≡ cond b (Due (depth + 1) nodes) (begun depth nodes byte) → r ≡ step (Due depth nodes) byte
   unfolding step
-  step-due s e b =
-      b ∙ sym (ap (λ (x : Scan). step x byte) s ∙ ap (λ (b : Bool). cond b (Due (depth + 1) nodes) (begun depth nodes byte)) (ne-eqb byte opening e))
+  step-due h e = e ∙ sym (ap (λ (b : Bool). cond b (Due (depth + 1) nodes) (begun depth nodes byte)) h)
 
-  pub step-closed : scan ≡ Closed depth nodes → r ≡ begun depth nodes byte → r ≡ step scan byte
+  pub step-label : (value : ℕ) → isDigit byte ≡ b → r ≡ cond b (lengthened depth nodes value (byte - zeroByte)) (parted depth nodes byte)
+      → r ≡ step (Label depth nodes value) byte
   unfolding step
-  step-closed s b = b ∙ sym (ap (λ (x : Scan). step x byte) s)
-
-  pub step-parted : (value : ℕ) → scan ≡ Label depth nodes value → isDigit byte ≡ false → r ≡ parted depth nodes byte → r ≡ step scan byte
-  unfolding step
-  step-parted value s e b =
-      b
-      ∙ sym (ap (λ (x : Scan). step x byte) s
-      ∙ ap (λ (b : Bool). cond b (lengthened depth nodes value (byte - zeroByte)) (parted depth nodes byte)) e)
-
-  pub step-digit : (value : ℕ) → scan ≡ Label depth nodes value → isDigit byte ≡ true → r ≡ lengthened depth nodes value (byte - zeroByte) → r ≡ step scan byte
-  unfolding step
-  step-digit value s e b =
-      b
-      ∙ sym (ap (λ (x : Scan). step x byte) s
-      ∙ ap (λ (b : Bool). cond b (lengthened depth nodes value (byte - zeroByte)) (parted depth nodes byte)) e)
-
-  pub step-ended : scan ≡ Ended nodes → Broken ≡ step scan byte
-  unfolding step
-  step-ended s = sym (ap (λ (x : Scan). step x byte) s)
-
-  pub step-broken : scan ≡ Broken → Broken ≡ step scan byte
-  unfolding step
-  step-broken s = sym (ap (λ (x : Scan). step x byte) s)
+  step-label value h e = e ∙ sym (ap (λ (b : Bool). cond b (lengthened depth nodes value (byte - zeroByte)) (parted depth nodes byte)) h)
 
 -- ---- another byte after a whole subtree
 

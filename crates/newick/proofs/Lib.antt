@@ -2,6 +2,7 @@
 -- and lists where they stand in a text, and what they store; the table that is read; the answer, and what each number says. Stands on
 -- `tree`, `lines` and `refusal`; `exports` cites the answer alone.
 pub mod Digits
+pub mod Places
 pub mod Shown
 pub mod Exact
 pub mod Counted

@@ -14,7 +14,7 @@ use Rattle.tree.specs.Operations.{numberFrom, renumbered, oldNumbers}
 use Rattle.tree.proofs.Reading.{Agrees}
 use Rattle.tree.proofs.Stands.{Numbers}
 use Rattle.tree.proofs.TableOf.{tableOf-unique, tableOf-accepted, tableOf-tree, nodes-tableOf}
-use Rattle.tree.proofs.Renumbered.{run-upTo, preorder-numberFrom, tree-numbers}
+use Rattle.tree.proofs.Renumbered.{run-upTo, preorder-numberFrom, numberFrom-again, tree-numbers}
 use Rattle.newick.specs.Read.{mostNodes, linksOf}
 use Rattle.newick.specs.Steps.{rowsFrom}
 use Rattle.newick.proofs.Stored.{length-rows}
@@ -45,19 +45,6 @@ rows-agree (node v f g) k t before behind is e = (
 
     S : List ℕ
     S = rowsFrom (k + 1 + size f) g
-
--- ---- numbered again
-
-size-numberFrom : (k : ℕ) (f : Forest) → size (numberFrom k f) ≡ size f
-size-numberFrom k nil = refl
-size-numberFrom k (node v f g) = omega (arith, size-numberFrom (k + 1) f, size-numberFrom (k + 1 + size f) g)
-
-numberFrom-again : (j k : ℕ) (f : Forest) → numberFrom j (numberFrom k f) ≡ numberFrom j f
-numberFrom-again j k nil = refl
-numberFrom-again j k (node v f g) =
-    ap₂ (node j) (numberFrom-again (j + 1) (k + 1) f)
-    (numberFrom-again (j + 1 + size (numberFrom (k + 1) f)) (k + 1 + size f) g
-    ∙ ap (λ (n : ℕ). numberFrom (j + 1 + n) g) (size-numberFrom (k + 1) f))
 
 -- ---- a labelled tree
 

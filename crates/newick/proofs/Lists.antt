@@ -13,7 +13,8 @@ use Rattle.newick.specs.Read.{mostNodes, tapesOf}
 use Rattle.newick.specs.Steps.{rowsFrom, Stands, Stops, Room, SubtreeHere, ListHere, RowsRead, SubtreeRead, ListRead}
 use Rattle.newick.specs.declared.rows.Reached.{Reached}
 use Rattle.newick.proofs.Stored.{rows-further, tapes-further}
-use Rattle.newick.proofs.Subtrees.{at-within, at-byte, at-past, IsNode}
+use Rattle.newick.proofs.Places.{at-within, at-byte, at-past}
+use Rattle.newick.proofs.Subtrees.{IsNode}
 
 -- ---- what comes after a list's first subtree, where the list ends with a byte and `more`
 
@@ -172,22 +173,22 @@ module _ {text : List ℕ} {at k : ℕ} {table tapes table₁ tapes₁ : List �
 -- ---- the loop of `list`
 
 -- a list stands at `start`, and whatever reads it reads the list that stands at `at`
-pub record Turn (text : List ℕ) (at k : ℕ) (table₀ tapes₀ table tapes : List ℕ) (start root : ℕ) : Type 0 where
+pub record ListTurn (text : List ℕ) (at k : ℕ) (table₀ tapes₀ table tapes : List ℕ) (start root : ℕ) : Type 0 where
   pub here : ListHere text start root table tapes
   pub forward : at ≤ start
   pub same-table : length table ≡ length table₀
   pub same-tapes : length tapes ≡ length tapes₀
   pub rest : {r : Reached} {table′ tapes′ : List ℕ} → ListRead text start root table tapes r table′ tapes′ → ListRead text at k table₀ tapes₀ r table′ tapes′
 
-pub first-turn : {text : List ℕ} {at k : ℕ} {table tapes : List ℕ} → ListHere text at k table tapes → Turn text at k table tapes table tapes at k
+pub first-turn : {text : List ℕ} {at k : ℕ} {table tapes : List ℕ} → ListHere text at k table tapes → ListTurn text at k table tapes table tapes at k
 first-turn s = record { here = s; forward = omega arith; same-table = refl; same-tapes = refl; rest = λ read. read }
 
 pub next-turn : {text : List ℕ} {at k : ℕ} {table₀ tapes₀ table tapes table₁ tapes₁ table₂ : List ℕ} {start root : ℕ} {r : Reached}
-    → Turn text at k table₀ tapes₀ table tapes start root
+    → ListTurn text at k table₀ tapes₀ table tapes start root
     → SubtreeRead text start root table tapes r table₁ tapes₁
     → length table₂ ≡ length table → length tapes₁ ≡ length tapes
     → getD text (r .at) 0 ≡ comma → table₂ ≡ set table₁ (2 * root + 1) (r .node)
-    → Turn text at k table₀ tapes₀ table₂ tapes₁ (r .at + 1) (r .node)
+    → ListTurn text at k table₀ tapes₀ table₂ tapes₁ (r .at + 1) (r .node)
 next-turn {table₂ = table₂} turn read same same′ parts sibling = record {
   here = further-here (turn .here) read parts table₂ same same′;
   forward = omega (arith, turn .forward, not-back (turn .here) read);

@@ -13,9 +13,8 @@ use Rattle.newick.specs.Text.{IsText}
 use Rattle.newick.specs.Reading.{treeRead}
 use Rattle.newick.specs.Read.{mostBytes, mostNodes, nodesOf, refusal, Says, no-text, too-large, too-short, taken}
 use Rattle.newick.specs.Steps.{treeNumber}
-use Rattle.newick.proofs.Shown.{read-text}
 use Rattle.newick.proofs.Exact.{text-read}
-use Rattle.newick.proofs.Answer.{too-long, number-of, no-tree, too-many, short-table, short-tapes, accepted}
+use Rattle.newick.proofs.Answer.{too-long, number-of, no-tree, too-many, short-table, short-tapes, accepted, text-of}
 
 -- the nodes of a text are those of its tree
 pub nodes-text : (tree : Forest) (text : List ℕ) → IsText tree text → nodesOf text ≡ size tree
@@ -25,11 +24,6 @@ nodes-text tree text t = ap size (text-read tree text t)
 -- a tree has some node
 some-node : (tree : Forest) (text : List ℕ) → IsText tree text → size tree ≡ 0 → ⊥
 some-node tree text t e = absurd (omega (arith, e, ap size (t .is-tree)))
-
--- where a text has nodes, it is that of the tree to which it is read
-text-of : (text : List ℕ) → (nodesOf text ≡ 0 → ⊥) → IsText (treeRead text) text
-unfolding nodesOf
-text-of text some = read-text text (λ e. some (ap size e))
 
 module _ (text : List ℕ) (t p : ℕ) where
   -- every text of a tree that is small enough is accepted, and read to that tree

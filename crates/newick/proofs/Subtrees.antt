@@ -1,13 +1,13 @@
 -- A subtree at a place of a text that is known to be right: what `subtree` needs there, and what it gives. Assumes nothing.
 use mathlib.Core.Path.{_≡_, refl, sym, ap, _∙_, subst}
 use Prim.Native.Nat.{ℕ, _+_, _*_, _≤_, _<_}
-use native.Mathlib.Nat.{add-zero, not-suc-le-zero}
+use native.Mathlib.Nat.{not-suc-le-zero}
 use native.Mathlib.Omega.{arith}
 use mathlib.Core.Bool.{true, false, true≢false}
 use mathlib.Core.List.{List, [], _∷_, _++_, append-assoc, append-nil}
-use lib.ListN.{length, getD, drop, length-drop, length-append}
+use lib.ListN.{length, getD, drop, length-append}
 use borrow.Author.Tests.{eqb-false}
-use lib.Seq.{sets, drop-drop, drop-append-seam, getD-drop}
+use lib.Seq.{sets}
 use Rattle.lines.specs.Decimal.{digit, decimal}
 use Rattle.lines.proofs.ReadBack.{some-digit}
 use Rattle.tree.proofs.Counting.{All}
@@ -18,21 +18,10 @@ use Rattle.newick.specs.Reading.{isDigit}
 use Rattle.newick.specs.Read.{words}
 use Rattle.newick.specs.Steps.{leading, labelAt, LabelHere, rowsFrom, Stands, Stops, Room, SubtreeHere, ListHere, RowsRead, SubtreeRead, ListRead}
 use Rattle.newick.specs.declared.rows.Reached.{Reached}
+use Rattle.newick.proofs.Places.{at-within, at-byte, at-past}
 use Rattle.newick.proofs.Digits.{decimal-digits}
 use Rattle.newick.proofs.LabelAt.{leading-here, label-here}
 use Rattle.newick.proofs.Stored.{rows-inner, tapes-inner, rows-leaf, tapes-leaf}
-
--- ---- a part of a text at a place
-
-module _ (text : List ℕ) (at : ℕ) where
-  pub at-within : (x : ℕ) (l : List ℕ) → drop at text ≡ x ∷ l → at < length text
-  at-within x l e = omega (arith, length-drop at text, ap length e)
-
-  pub at-byte : (x : ℕ) (l : List ℕ) → drop at text ≡ x ∷ l → getD text at 0 ≡ x
-  at-byte x l e = ap (λ (k : ℕ). getD text k 0) (sym (add-zero at)) ∙ sym (getD-drop at text 0 0) ∙ ap (λ (m : List ℕ). getD m 0 0) e
-
-  pub at-past : (part more : List ℕ) → drop at text ≡ part ++ more → drop (at + length part) text ≡ more
-  at-past part more e = sym (drop-drop (length part) at text) ∙ ap (drop (length part)) e ∙ drop-append-seam part more
 
 -- a number's first byte is a digit
 record Front (l : List ℕ) : Type 0 where

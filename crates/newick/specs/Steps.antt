@@ -49,13 +49,13 @@ counted (Label depth nodes value) = 0
 counted (Ended nodes) = nodes
 counted Broken = 0
 
--- the counts are at most k
-abbrev pub Within : ℕ → Scan → Type 0
-Within k (Due depth nodes) = (depth ≤ k) × (nodes ≤ k)
-Within k (Closed depth nodes) = (depth ≤ k) × (nodes ≤ k)
-Within k (Label depth nodes value) = (depth ≤ k) × (nodes ≤ k)
-Within k (Ended nodes) = nodes ≤ k
-Within k Broken = Unit
+-- open brackets and labels together
+abbrev pub counts : Scan → ℕ
+counts (Due depth nodes) = depth + nodes
+counts (Closed depth nodes) = depth + nodes
+counts (Label depth nodes value) = depth + nodes
+counts (Ended nodes) = nodes
+counts Broken = 0
 
 -- the number of a text of n nodes that is not too long
 unfoldable pub treeNumber : ℕ → ℕ → ℕ → ℕ

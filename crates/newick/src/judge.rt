@@ -3,7 +3,7 @@ ghost use mathlib.Core.Path.{_≡_};
 ghost use Prim.Native.Nat.{_≤_};
 ghost use lib.ListN.{length};
 ghost use Rattle.newick.specs.Read.{mostBytes, nodesOf};
-ghost use Rattle.newick.specs.Steps.{begun, lengthened, parted, step, counted, Within};
+ghost use Rattle.newick.specs.Steps.{begun, lengthened, parted, step, counted, counts};
 use super::label::is_digit;
 
 const MOST_LABEL: u64 = 4294967295;
@@ -91,7 +91,7 @@ fn parted(depth: usize, nodes: usize, byte: u8) -> Scan
 
 // One byte is read.
 fn step(scan: Scan, byte: u8) -> Scan
-    requires { ⌜ Within mostBytes scan ⌝ }
+    requires { ⌜ counts scan ≤ mostBytes ⌝ }
     ensures { λ r. ⌜ r ≡ step scan byte ⌝ }
 {
     match scan {

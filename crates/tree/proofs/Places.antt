@@ -1,12 +1,18 @@
--- Where a number stands in a list: each place counts once, so a number that occurs once stands at one place. Assumes nothing.
-use mathlib.Core.Path.{_≡_, refl, sym, ap}
+-- A place of a list: the list from there on; where a number stands. Each place counts once, so a number that occurs once stands at one
+-- place. Assumes nothing.
+use mathlib.Core.Path.{_≡_, refl, sym, ap, _∙_}
 use mathlib.Core.List.{List, [], _∷_}
-use Prim.Native.Nat.{ℕ, zero, suc, _≤_, _<_}
+use Prim.Native.Nat.{ℕ, zero, suc, _+_, _≤_, _<_}
 use native.Mathlib.Nat.{not-suc-le-zero, le-of-suc-le-suc}
+use native.Mathlib.Numerals.{add-one}
 use native.Mathlib.Omega.{arith}
-use lib.ListN.{length, getD}
+use lib.ListN.{length, getD, drop}
+use lib.Seq.{drop-cons}
 use Rattle.tree.specs.Numbers.{count}
 use Rattle.tree.proofs.Counting.{is-same}
+
+pub from-place : (l : List ℕ) (i d : ℕ) → i < length l → drop i l ≡ getD l i d ∷ drop (i + 1) l
+from-place l i d within = drop-cons l i d within ∙ ap (λ (k : ℕ). getD l i d ∷ drop k l) (sym (add-one i))
 
 module _ (w d : ℕ) where
   pub count-at : (l : List ℕ) (i : ℕ) → i < length l → getD l i d ≡ w → 1 ≤ count w l

@@ -52,6 +52,18 @@ pub shape-numberFrom : (k : ℕ) (f : Forest) → sameShape (numberFrom k f) f �
 shape-numberFrom k nil = refl
 shape-numberFrom k (node v f g) = ap₂ _&&_ (shape-numberFrom (k + 1) f) (shape-numberFrom (k + 1 + size f) g)
 
+size-numberFrom : (k : ℕ) (f : Forest) → size (numberFrom k f) ≡ size f
+size-numberFrom k nil = refl
+size-numberFrom k (node v f g) = omega (arith, size-numberFrom (k + 1) f, size-numberFrom (k + 1 + size f) g)
+
+-- numbered twice is numbered once
+pub numberFrom-again : (j k : ℕ) (f : Forest) → numberFrom j (numberFrom k f) ≡ numberFrom j f
+numberFrom-again j k nil = refl
+numberFrom-again j k (node v f g) =
+    ap₂ (node j) (numberFrom-again (j + 1) (k + 1) f)
+    (numberFrom-again (j + 1 + size (numberFrom (k + 1) f)) (k + 1 + size f) g
+    ∙ ap (λ (n : ℕ). numberFrom (j + 1 + n) g) (size-numberFrom (k + 1) f))
+
 -- each number, from k on, with the element of the list at its place
 abbrev pub numberedFrom : ℕ → List ℕ → List Pair
 numberedFrom k [] = []

@@ -6,10 +6,11 @@ use Prim.Native.Nat.{ℕ, suc, _+_, _-_, _*_, _≤_, _<_}
 use native.Mathlib.Numerals.{add-one}
 use native.Mathlib.Omega.{arith}
 use lib.ListN.{length, getD, take, drop, set, length-append, length-drop, length-set}
-use lib.Seq.{take-suc-set, drop-cons, drop-set-lt, length-take-le, drop-length}
+use lib.Seq.{take-suc-set, drop-set-lt, length-take-le, drop-length}
 use Rattle.tree.specs.Table.{none, nodes, firstChild, nextSibling}
 use Rattle.tree.specs.Forest.{Forest, forest, treeOf, size, preorder}
 use Rattle.tree.specs.Steps.{pushed, pushedLow, Pushed}
+use Rattle.tree.proofs.Places.{from-place}
 use Rattle.tree.proofs.Counting.{All}
 use Rattle.tree.proofs.Reading.{size-preorder}
 use Rattle.tree.proofs.Scan.{getD-any}
@@ -67,7 +68,7 @@ module _ (t : List ℕ) (L : Linked t) where
   -- the node on the top of the stack is taken in hand
   module _ (order : List ℕ) (low count : ℕ) (W : Visiting t order none low count) (more : low < nodes t) where
     split : drop low order ≡ getD order low 0 ∷ drop (low + 1) order
-    split = drop-cons order low 0 (omega arith) ∙ ap (λ (k : ℕ). getD order low 0 ∷ drop k order) (sym (add-one low))
+    split = from-place order low 0 (omega arith)
 
     pub top-node : getD order low 0 ≡ none → ⊥
     top-node e = omega (arith, subst (All (Pending t)) split (W .pending) .0 .below, L .few)

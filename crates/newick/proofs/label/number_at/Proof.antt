@@ -4,7 +4,7 @@ use Prim.Native.Nat.{ℕ}
 use native.Mathlib.Omega.{arith}
 use lib.ListN.{drop}
 use Rattle.newick.specs.Steps.{leading}
-use Rattle.newick.proofs.LabelAt.{Passed, Turn, passed-within, passed-turn, passed-label, passed-end}
+use Rattle.newick.proofs.LabelAt.{Passed, DigitTurn, passed-within, passed-turn, passed-label, passed-end}
 use Rattle.newick.proofs.label.number_at.Statement.{statement}
 use Rattle.newick.proofs.label.number_at.Tie as tie
 use Rattle.newick.proofs.label.number_at.Reads as reads
@@ -19,7 +19,7 @@ abbrev μ-loop : tie.MeasureT-loop
 
 -- what is known where the test said that a digit stands at `end`
 digit-turn : (c : lts.Then1 (is-digit.Asked, is-digit.Learnt) reads.Pre reads.Post Inv-loop μ-loop)
-    → Turn (c .before .before .before .before .before .args .text .now) (c .before .before .before .before .before .args .at)
+    → DigitTurn (c .before .before .before .before .before .args .text .now) (c .before .before .before .before .before .args .at)
     (c .before .before .before .loop .value)
     (c .before .before .before .loop .end)
 digit-turn c =

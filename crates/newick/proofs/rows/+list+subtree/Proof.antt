@@ -4,7 +4,7 @@ use Prim.Native.Nat.{ℕ, _+_, _-_, _*_, _<_}
 use native.Mathlib.Omega.{arith}
 use lib.ListN.{length}
 use Rattle.newick.proofs.Subtrees.{subtree-within, inner-list, inner-label, leaf-label, inner-read, leaf-read}
-use Rattle.newick.proofs.Lists.{first-here, behind-within, next-few, not-back, list-last, Turn, first-turn, next-turn}
+use Rattle.newick.proofs.Lists.{first-here, behind-within, next-few, not-back, list-last, ListTurn, first-turn, next-turn}
 use borrow.Fn.Kinds.{In}
 use borrow.Fn.PlainCycle.{Measures, is, falls, and}
 use Rattle.newick.proofs.rows.list.Reads as list
@@ -47,7 +47,7 @@ abbrev subtree-calls : ℕ → subtree-lts.Claims
 subtree-calls t = (store-pair.Asked, store-pair.Learnt, list-below t, list.Post, read-label.Asked, read-label.Learnt)
 
 abbrev list-Inv-loop : list-lts.InvT-loop
-list-Inv-loop text at node table₀ tapes₀ start₀ root₀ table tapes start root = Turn text at node table₀ tapes₀ table tapes start root
+list-Inv-loop text at node table₀ tapes₀ start₀ root₀ table tapes start root = ListTurn text at node table₀ tapes₀ table tapes start root
 
 abbrev list-μ-loop : list-lts.MeasureT-loop
 list-μ-loop text at node table₀ tapes₀ start₀ root₀ table tapes start root = length text - start
