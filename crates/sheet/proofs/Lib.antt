@@ -8,6 +8,6 @@ pub mod Fit
 pub mod Fixed
 pub mod Rewritten
 pub mod RoundTrip
-pub mod Walk
+pub mod Reading
 pub mod Words
 pub mod Written

@@ -5,4 +5,5 @@ pub mod Block
 pub mod Layout
 pub mod Read
 pub mod File
+pub mod Walk
 pub mod Steps

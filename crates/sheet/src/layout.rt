@@ -14,7 +14,11 @@ const BLOCK_ROWS: usize = 63;
 
 pub const ROW_WORDS: usize = 4;
 
+pub const FIRST_BLOCK: usize = 1;
+
 pub const FIRST_WORD: usize = 2;
+
+pub const LAST_ROW_WORD: usize = 250;
 
 pub const HEADER_MARK: usize = 0;
 

@@ -7,6 +7,7 @@ mod conditions;
 mod header;
 pub mod layout;
 mod rows;
+pub mod walk;
 
 use conditions::refusal_of;
 use header::nodes_of;

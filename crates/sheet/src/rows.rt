@@ -1,59 +1,72 @@
-// The rows of a sheet, read block by block in node order. Nothing is divided.
+// The rows of a sheet, read in node order.
 ghost use mathlib.Core.Path.{_≡_};
-ghost use Prim.Native.Nat.{_+_, _*_, _<_, _≤_};
+ghost use Prim.Native.Nat.{_+_, _*_, _<_};
 ghost use lib.ListN.{length};
-ghost use Rattle.sheet.specs.Block.{blockBytes, wordAt};
-ghost use Rattle.sheet.specs.Layout.{blockRows, blocksFor};
-ghost use Rattle.sheet.specs.Steps.{storePair, BlockRead, RowsRead};
+ghost use Rattle.sheet.specs.Read.{pairAt};
+ghost use Rattle.sheet.specs.Walk.{OnRow};
+ghost use Rattle.sheet.specs.Steps.{storePair, Room, RowRead, RowsRead, BlockRead};
 use super::block::block_at;
 use super::block::word;
-use super::layout::FIRST_WORD;
-use super::layout::ROW_WORDS;
-use super::layout::rows_in;
+use super::layout::LAST_ROW_WORD;
+use super::walk::RowPlace;
+use super::walk::first_row;
+use super::walk::next_row;
 
 // Copies two words of a block, from word `from` on, to the pair of entries numbered `pair`.
 fn copy_pair(block: &[u8], from: usize, entries: &mut [u16], pair: usize)
     requires { ⌜ 2 * (from + 1) + 1 < length (now block) ⌝ }
     requires { ⌜ 2 * pair + 1 < length (now entries) ⌝ }
-    ensures { λ _. ⌜ now (entries .exit) ≡ storePair (now (entries .entry)) pair (wordAt (now (block .entry)) from) (wordAt (now (block .entry)) (from + 1)) ⌝ }
+    ensures { λ _. ⌜ now (entries .exit) ≡ storePair (now (entries .entry)) pair (pairAt (now (block .entry)) from) ⌝ }
 {
-    entries[2 * pair] = word(block, from);
-    entries[2 * pair + 1] = word(block, from + 1);
+    let first = word(block, from);
+    let second = word(block, from + 1);
+    entries[2 * pair] = first;
+    entries[2 * pair + 1] = second;
 }
 
-// Reads the first rows of a block to the start of both slices.
-fn read_block(block: &[u8], rows: usize, table: &mut [u16], tapes: &mut [u16])
-    requires { ⌜ (length (now block) ≡ blockBytes) × (rows ≤ blockRows) ⌝ }
-    requires { ⌜ (2 * rows ≤ length (now table)) × (2 * rows ≤ length (now tapes)) ⌝ }
-    ensures { λ _. ⌜ BlockRead (now (block .entry)) rows (now (table .entry)) (now (tapes .entry)) (now (table .exit)) (now (tapes .exit)) ⌝ }
+// Reads a node's row.
+fn read_row(file: &[u8], at: RowPlace, table: &mut [u16], tapes: &mut [u16])
+    requires { ⌜ OnRow at ⌝ }
+    requires { ⌜ Room (at .node + 1) (now file) (now table) (now tapes) ⌝ }
+    ensures { λ _. ⌜ RowRead (now (file .entry)) (at .node) (now (table .entry)) (now (tapes .entry)) (now (table .exit)) (now (tapes .exit)) ⌝ }
 {
-    let mut row: usize = 0;
-    while row < rows {
-        let from = FIRST_WORD + ROW_WORDS * row;
-        copy_pair(block, from, table, row);
-        copy_pair(block, from + 2, tapes, row);
-        row += 1;
+    let block = block_at(file, at.block);
+    copy_pair(block, at.word, table, at.node);
+    copy_pair(block, at.word + 2, tapes, at.node);
+}
+
+// Reads the rows of a block from row `from` on, and gives the row after them. The block's last row is read after the loop, so that the loop
+// stays in the block.
+fn read_block(
+    file: &[u8],
+    from: RowPlace,
+    nodes: usize,
+    table: &mut [u16],
+    tapes: &mut [u16],
+) -> RowPlace
+    requires { ⌜ (OnRow from) × (from .node < nodes) × (nodes < 65536) ⌝ }
+    requires { ⌜ Room nodes (now file) (now table) (now tapes) ⌝ }
+    requires { ⌜ RowsRead (now file) (from .node) (now table) (now tapes) (now table) (now tapes) ⌝ }
+    ensures { λ r. ⌜ BlockRead (now (file .entry)) from nodes (now (table .entry)) (now (tapes .entry)) r (now (table .exit)) (now (tapes .exit)) ⌝ }
+{
+    let last = nodes - 1;
+    let mut at = from;
+    while at.node < last && at.word < LAST_ROW_WORD {
+        read_row(file, at, table, tapes);
+        at = next_row(at);
     }
+    read_row(file, at, table, tapes);
+    next_row(at)
 }
 
-// Reads the rows of all nodes. `first` is the first node of the block after block `place`.
+// Reads the rows of all nodes.
 pub fn read_rows(file: &[u8], nodes: usize, table: &mut [u16], tapes: &mut [u16])
-    requires { ⌜ blockBytes * blocksFor nodes ≤ length (now file) ⌝ }
-    requires { ⌜ (2 * nodes ≤ length (now table)) × (2 * nodes ≤ length (now tapes)) ⌝ }
+    requires { ⌜ nodes < 65536 ⌝ }
+    requires { ⌜ Room nodes (now file) (now table) (now tapes) ⌝ }
     ensures { λ _. ⌜ RowsRead (now (file .entry)) nodes (now (table .entry)) (now (tapes .entry)) (now (table .exit)) (now (tapes .exit)) ⌝ }
 {
-    let mut place: usize = 0;
-    let mut first: usize = 0;
-    while first < nodes {
-        let rows = rows_in(nodes, place);
-        let start = 2 * first;
-        read_block(
-            block_at(file, place + 1),
-            rows,
-            &mut table[start..],
-            &mut tapes[start..],
-        );
-        place += 1;
-        first += rows;
+    let mut at = first_row();
+    while at.node < nodes {
+        at = read_block(file, at, nodes, table, tapes);
     }
 }

@@ -1,6 +1,6 @@
 -- The blocks of a file, written one after the other. Assumes nothing.
 use mathlib.Core.Path.{_≡_, refl, sym, ap, _∙_}
-use Prim.Native.Nat.{ℕ, _+_, _-_, _*_, _≤_}
+use Prim.Native.Nat.{ℕ, _+_, _-_, _*_, min, _≤_, _<_}
 use native.Mathlib.Nat.{le-refl}
 use native.Mathlib.Numerals.{add-one}
 use native.Mathlib.Omega.{arith}
@@ -11,7 +11,7 @@ use Rattle.refusal.specs.After.{overwrite}
 use Rattle.refusal.proofs.After.{length-overwrite, overwrite-again, overwrite-more}
 use Rattle.sheet.specs.Below.{joined}
 use Rattle.sheet.specs.Block.{blockBytes, bytesOf}
-use Rattle.sheet.specs.Layout.{headerMark, blockRows, blocksFor, rowsIn, countWord}
+use Rattle.sheet.specs.Layout.{headerMark, blockRows, blocksFor, nodeBlock, rowsIn, countWord}
 use Rattle.sheet.specs.File.{content, blockOf, fileOf}
 use Rattle.sheet.proofs.Below.{joined-more, length-joined}
 use Rattle.sheet.proofs.Written.{block-size}
@@ -39,15 +39,15 @@ module _ (n D : ℕ) (table tapes : List ℕ) where
   unfolding blockOver blockOf countWord content
   block-next b old = rw (add-one b)
 
-  pub block-more : (b rows first start : ℕ) (old current last : List ℕ) → rows ≡ rowsIn n b → first ≡ blockRows * b → start ≡ blockBytes * (b + 1)
-      → start ≤ length old
-      → current ≡ overwrite (front (b + 1)) old
-      → last ≡ blockOver ((b + 1) ∷ rows ∷ rowsFrom table tapes first rows) (midOf start (length current - start) current)
-      → putMid start (length current - start) current last ≡ overwrite (front (b + 1 + 1)) old
-  block-more b rows first start old current last isRows isFirst isStart room isCurrent isLast =
-      overwrite-more (front (b + 1)) (bytesOf (blockOf n D table tapes (b + 1))) old current last start (length-front (b + 1) ∙ sym isStart) room isCurrent
-      (isLast ∙ rw (isRows, isFirst) (block-next b _))
-      ∙ ap (λ (new : List ℕ). overwrite new old) (sym (joined-more (b + 1) (λ k. bytesOf (blockOf n D table tapes k))))
+  pub block-more : (b place rows first : ℕ) (old current last : List ℕ) → place ≡ b + 1 → rows ≡ rowsIn n b → first ≡ blockRows * b
+      → blockBytes * place ≤ length old
+      → current ≡ overwrite (front place) old
+      → last ≡ blockOver (place ∷ rows ∷ rowsFrom table tapes first rows) (midOf (blockBytes * place) (length current - blockBytes * place) current)
+      → putMid (blockBytes * place) (length current - blockBytes * place) current last ≡ overwrite (front (place + 1)) old
+  block-more b place rows first old current last isPlace isRows isFirst room isCurrent isLast =
+      overwrite-more (front place) (bytesOf (blockOf n D table tapes place)) old current last (blockBytes * place) (length-front place) room isCurrent
+      (isLast ∙ rw (isPlace, isRows, isFirst) (block-next b _))
+      ∙ ap (λ (new : List ℕ). overwrite new old) (sym (joined-more place (λ k. bytesOf (blockOf n D table tapes k))))
 
   -- the loop begins with the header written, and ends with all blocks
   pub blocks-begun : (old first : List ℕ) → first ≡ blockOver (0 ∷ headerMark ∷ n ∷ D ∷ []) old → first ≡ overwrite (front 1) first
@@ -64,3 +64,26 @@ module _ (n D : ℕ) (table tapes : List ℕ) where
       ∙ ap (overwrite (front count)) (isFirst ∙ header-first old)
       ∙ overwrite-again (front count) (front 1) old (omega (arith, length-front 1, length-front count))
       ∙ ap (λ (k : ℕ). overwrite (front k) old) all
+
+-- the nodes before a block of rows are written: those of full blocks, or all
+abbrev pub Whole : ℕ → ℕ → Type 0
+Whole n m = m ≡ min n (blockRows * (blocksFor m - 1))
+
+-- a further block begins with the next node
+module _ (n m : ℕ) (whole : Whole n m) (left : m < n) where
+  pub begins : m ≡ blockRows * (nodeBlock m - 1)
+  begins = omega arith
+
+  pub place-begun : blocksFor m ≡ nodeBlock m
+  place-begun = omega arith
+
+-- and ends, with its rows written
+module _ (n b first m : ℕ) (begun : first ≡ blockRows * b) (left : first < n) (ended : m ≡ first + rowsIn n b) where
+  pub fewer-left : n - m < n - first
+  fewer-left = omega arith
+
+  pub place-ended : blocksFor m ≡ b + 2
+  place-ended = omega arith
+
+  pub whole-ended : Whole n m
+  whole-ended = omega (arith, place-ended)

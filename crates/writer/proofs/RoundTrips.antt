@@ -21,7 +21,7 @@ use Rattle.sheet.specs.declared.Sheet.{Sheet}
 use Rattle.sheet.proofs.Answer.{Accepted, accepted}
 use Rattle.sheet.proofs.Rewritten.{read-and-written}
 use Rattle.sheet.proofs.RoundTrip.{read-written}
-use Rattle.sheet.proofs.Walk.{length-nodes}
+use Rattle.sheet.proofs.Reading.{length-nodes}
 use Rattle.sheet.proofs.Written.{length-file, tapes-unseen}
 use Rattle.writer.specs.Write.{sheetFile, writeNumber, SheetWritten}
 use Rattle.writer.specs.declared.Written.{Written}

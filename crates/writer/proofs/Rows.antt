@@ -1,12 +1,12 @@
 -- The rows of a block, stored one after the other, and the zeros behind them. Assumes nothing.
 use mathlib.Core.Path.{_≡_, refl, sym, ap, _∙_}
-use Prim.Native.Nat.{ℕ, _+_, _-_, _*_, _≤_}
+use Prim.Native.Nat.{ℕ, _+_, _-_, _*_, _≤_, _<_}
 use native.Mathlib.Omega.{arith}
-use mathlib.Core.List.{List, [], _∷_, _++_, append-assoc}
-use lib.ListN.{length, replicate, length-append, length-replicate, replicate-append-replicate}
-use Rattle.sheet.specs.Layout.{firstWord, rowWords, rowWord}
+use mathlib.Core.Logic.{_⊎_, inl, inr}
+use mathlib.Core.List.{List, [], _∷_}
+use lib.ListN.{length, replicate, length-replicate, replicate-append-replicate}
+use Rattle.sheet.specs.Layout.{firstWord, rowWords, rowWord, nodeWord, blockRows, rowsIn}
 use Rattle.sheet.specs.File.{row}
-use Rattle.sheet.specs.Steps.{pairOf}
 use Rattle.sheet.proofs.Below.{joined-more, length-joined}
 use Rattle.writer.specs.Steps.{storeWords, rowsFrom}
 use Rattle.writer.proofs.Stored.{stored-next}
@@ -16,21 +16,33 @@ module _ (table tapes : List ℕ) (first : ℕ) where
   unfolding row
   length-rows k = length-joined rowWords (λ i. row table tapes (first + i)) (λ i. refl) k
 
-  -- the links and the tape of one node more
-  pub rows-more : (block current half last : List ℕ) (k : ℕ) → current ≡ storeWords block firstWord (rowsFrom table tapes first k)
-      → half ≡ storeWords current (rowWord k) (pairOf table (first + k))
-      → last ≡ storeWords half (rowWord k + 2) (pairOf tapes (first + k))
+  -- the row of one node more
+  pub rows-more : (block current last : List ℕ) (k : ℕ) → current ≡ storeWords block firstWord (rowsFrom table tapes first k)
+      → last ≡ storeWords current (rowWord k) (row table tapes (first + k))
       → last ≡ storeWords block firstWord (rowsFrom table tapes first (k + 1))
-  unfolding row
-  rows-more block current half last k isCurrent isHalf isLast =
-      let before : List ℕ = rowsFrom table tapes first k in
-      let links = pairOf table (first + k) in
-      let links-stored = stored-next block firstWord before links current half (rowWord k) (omega (arith, length-rows k)) isCurrent isHalf in
-      let tape-stored = stored-next block firstWord (before ++ links) (pairOf tapes (first + k)) half last (rowWord k + 2)
-      (omega (arith, length-rows k, length-append before links)) links-stored isLast
-      in
-      tape-stored
-      ∙ ap (storeWords block firstWord) (append-assoc before links (pairOf tapes (first + k)) ∙ sym (joined-more k (λ i. row table tapes (first + i))))
+  rows-more block current last k isCurrent isLast =
+      stored-next block firstWord (rowsFrom table tapes first k) (row table tapes (first + k)) current last (rowWord k) (omega (arith, length-rows k)) isCurrent
+      isLast
+      ∙ ap (storeWords block firstWord) (sym (joined-more k (λ i. row table tapes (first + i))))
+
+-- row i of block b + 1
+row-at : (b i : ℕ) → i < blockRows → nodeWord (blockRows * b + i) ≡ rowWord i
+row-at b i l = omega arith
+
+-- node r stands in the block of rows whose first node is `first`
+module _ (n b first r : ℕ) (begins : first ≡ blockRows * b) (from : first ≤ r) (to : r < first + rowsIn n b) where
+  pub row-word : nodeWord r ≡ rowWord (r - first)
+  row-word =
+      let here : r ≡ blockRows * b + (r - first) = omega arith in
+      ap nodeWord here ∙ row-at b (r - first) (omega arith)
+
+  -- a further one, or none
+  pub one-further : r < n - 1 → nodeWord r < rowWord (blockRows - 1) → r + 1 < first + rowsIn n b
+  one-further left inside = omega (arith, row-word)
+
+  pub none-further : n - 1 ≤ r ⊎ rowWord (blockRows - 1) ≤ nodeWord r → r + 1 ≡ first + rowsIn n b
+  none-further (inl h) = omega arith
+  none-further (inr h) = omega (arith, row-word)
 
 -- one zero more
 pub zeros-more : (block current last : List ℕ) (used place : ℕ) → used ≤ place → current ≡ storeWords block used (replicate (place - used) 0)

@@ -1,5 +1,5 @@
 -- What the writer's inner steps promise.
-use Prim.Native.Nat.{ℕ, _+_, _-_, _*_}
+use Prim.Native.Nat.{ℕ, _+_, _-_, _*_, _≤_, _<_}
 use mathlib.Core.Path.{_≡_}
 use mathlib.Core.List.{List, [], _∷_}
 use lib.ListN.{length, replicate}
@@ -7,12 +7,33 @@ use lib.Seq.{sets}
 use Rattle.refusal.specs.After.{overwrite}
 use Rattle.sheet.specs.Below.{joined}
 use Rattle.sheet.specs.Block.{closingPlace, bytesOf, wordSum, closes}
+use Rattle.sheet.specs.Layout.{blockRows, rowsIn}
 use Rattle.sheet.specs.File.{row, padded, closed}
+use Rattle.sheet.specs.Walk.{OnRow}
+use Rattle.sheet.specs.declared.walk.RowPlace.{RowPlace}
 use Rattle.writer.specs.Write.{sheetFile}
 
 -- a block after words are stored in it, from word k on
 unfoldable pub storeWords : List ℕ → ℕ → List ℕ → List ℕ
 storeWords block k words = sets block (2 * k) (bytesOf words)
+
+-- a block of rows is begun: the walk stands at its first row, and each of the nodes has two entries in the table and in the tape slice
+pub record Begun (n : ℕ) (from : RowPlace) (table tapes : List ℕ) : Type 0 where
+  pub on-row : OnRow from
+  pub first : from .node ≡ blockRows * (from .block - 1)
+  pub left : from .node < n
+  pub few : n < 65536
+  pub in-table : 2 * n ≤ length table
+  pub in-tapes : 2 * n ≤ length tapes
+
+-- how many rows stand in the block that begins with a row
+abbrev pub rowsOf : ℕ → RowPlace → ℕ
+rowsOf n from = rowsIn n (from .block - 1)
+
+-- the walk is past the rows of that block
+pub record Past (n : ℕ) (from next : RowPlace) : Type 0 where
+  pub on-row : OnRow next
+  pub node : next .node ≡ from .node + rowsOf n from
 
 -- the rows of nodes, from node `first` on
 abbrev pub rowsFrom : List ℕ → List ℕ → ℕ → ℕ → List ℕ

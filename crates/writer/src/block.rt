@@ -4,23 +4,31 @@ ghost use mathlib.Core.List.{[], _∷_};
 ghost use Prim.Native.Nat.{_+_, _*_, _<_, _≤_};
 ghost use lib.ListN.{length};
 ghost use Rattle.sheet.specs.Block.{blockBytes, closingPlace};
-ghost use Rattle.sheet.specs.Layout.{firstWord, blockRows, headerMark};
+ghost use Rattle.sheet.specs.Layout.{firstWord, headerMark, nodeWord};
 ghost use Rattle.sheet.specs.Steps.{pairOf};
-ghost use Rattle.writer.specs.Steps.{storeWords, rowsFrom, zeroed, closeBlock, blockOver};
+ghost use Rattle.sheet.specs.File.{row};
+ghost use Rattle.sheet.specs.Walk.{OnRow};
+ghost use Rattle.writer.specs.Steps.{storeWords, Begun, Past, rowsOf, rowsFrom, zeroed, closeBlock, blockOver};
 use sheet::block::word_sum;
 use sheet::layout::CLOSING_PLACE;
 use sheet::layout::FIRST_WORD;
 use sheet::layout::HEADER_MARK;
 use sheet::layout::HEADER_WORDS;
+use sheet::layout::LAST_ROW_WORD;
 use sheet::layout::ROW_WORDS;
+use sheet::layout::rows_in;
+use sheet::walk::RowPlace;
+use sheet::walk::next_row;
 
 // Stores a word.
 fn put(block: &mut [u8], place: usize, word: u16)
     requires { ⌜ 2 * place + 1 < length (now block) ⌝ }
     ensures { λ _. ⌜ now (block .exit) ≡ storeWords (now (block .entry)) place (word ∷ []) ⌝ }
 {
-    block[2 * place] = (word % 256) as u8;
-    block[2 * place + 1] = (word / 256) as u8;
+    let low = (word & 255) as u8;
+    let high = (word >> 8) as u8;
+    block[2 * place] = low;
+    block[2 * place + 1] = high;
 }
 
 // Stores the pair of entries numbered `pair`.
@@ -45,20 +53,38 @@ fn put_head(block: &mut [u8], place: usize, count: usize)
     put(block, 1, count as u16);
 }
 
-// Stores the rows of nodes, from node `first` on: first child, next sibling, tape low, tape high.
-fn put_rows(block: &mut [u8], table: &[u16], tapes: &[u16], first: usize, rows: usize)
-    requires { ⌜ (blockBytes ≤ length (now block)) × (rows ≤ blockRows) ⌝ }
-    requires { ⌜ (2 * (first + rows) ≤ length (now table)) × (2 * (first + rows) ≤ length (now tapes)) ⌝ }
-    ensures { λ _. ⌜ now (block .exit) ≡ storeWords (now (block .entry)) firstWord (rowsFrom (now (table .entry)) (now (tapes .entry)) first rows) ⌝ }
+// Stores a node's row: first child, next sibling, tape low, tape high.
+fn put_row(block: &mut [u8], at: RowPlace, table: &[u16], tapes: &[u16])
+    requires { ⌜ (OnRow at) × (blockBytes ≤ length (now block)) ⌝ }
+    requires { ⌜ (2 * at .node + 1 < length (now table)) × (2 * at .node + 1 < length (now tapes)) ⌝ }
+    ensures { λ _. ⌜ now (block .exit) ≡ storeWords (now (block .entry)) (nodeWord (at .node)) (row (now (table .entry)) (now (tapes .entry)) (at .node)) ⌝ }
 {
-    let mut row: usize = 0;
-    while row < rows {
-        let place = FIRST_WORD + ROW_WORDS * row;
-        let node = first + row;
-        put_pair(block, place, table, node);
-        put_pair(block, place + 2, tapes, node);
-        row += 1;
+    put_pair(block, at.word, table, at.node);
+    put_pair(block, at.word + 2, tapes, at.node);
+}
+
+// Stores the rows of a block from its first one on, and gives the row after them. The last one is stored after the loop, so that the loop
+// stays in the block.
+fn put_rows(
+    block: &mut [u8],
+    from: RowPlace,
+    nodes: usize,
+    table: &[u16],
+    tapes: &[u16],
+) -> RowPlace
+    requires { ⌜ Begun nodes from (now table) (now tapes) ⌝ }
+    requires { ⌜ blockBytes ≤ length (now block) ⌝ }
+    ensures { λ r. ⌜ Past nodes from r ⌝ }
+    ensures { λ _. ⌜ now (block .exit) ≡ storeWords (now (block .entry)) firstWord (rowsFrom (now (table .entry)) (now (tapes .entry)) (from .node) (rowsOf nodes from)) ⌝ }
+{
+    let last = nodes - 1;
+    let mut at = from;
+    while at.node < last && at.word < LAST_ROW_WORD {
+        put_row(block, at, table, tapes);
+        at = next_row(at);
     }
+    put_row(block, at, table, tapes);
+    next_row(at)
 }
 
 // Stores 0 in the words from `used` on, up to the closing word.
@@ -94,21 +120,23 @@ pub fn write_header(block: &mut [u8], nodes: usize, separation: u16)
     close(block);
 }
 
-// Writes a block of rows: those of nodes from node `first` on.
+// Writes a block of rows from its first row on, and gives the row after them.
 pub fn write_block(
     block: &mut [u8],
-    place: usize,
+    from: RowPlace,
+    nodes: usize,
     table: &[u16],
     tapes: &[u16],
-    first: usize,
-    rows: usize,
-)
-    requires { ⌜ (place < 65536) × (blockBytes ≤ length (now block)) × (rows ≤ blockRows) ⌝ }
-    requires { ⌜ (2 * (first + rows) ≤ length (now table)) × (2 * (first + rows) ≤ length (now tapes)) ⌝ }
-    ensures { λ _. ⌜ now (block .exit) ≡ blockOver (place ∷ rows ∷ rowsFrom (now (table .entry)) (now (tapes .entry)) first rows) (now (block .entry)) ⌝ }
+) -> RowPlace
+    requires { ⌜ Begun nodes from (now table) (now tapes) ⌝ }
+    requires { ⌜ blockBytes ≤ length (now block) ⌝ }
+    ensures { λ r. ⌜ Past nodes from r ⌝ }
+    ensures { λ _. ⌜ now (block .exit) ≡ blockOver (from .block ∷ rowsOf nodes from ∷ rowsFrom (now (table .entry)) (now (tapes .entry)) (from .node) (rowsOf nodes from)) (now (block .entry)) ⌝ }
 {
-    put_head(block, place, rows);
-    put_rows(block, table, tapes, first, rows);
+    let rows = rows_in(nodes, from.block - 1);
+    put_head(block, from.block, rows);
+    let next = put_rows(block, from, nodes, table, tapes);
     put_zeros(block, FIRST_WORD + ROW_WORDS * rows);
     close(block);
+    next
 }

@@ -14,7 +14,7 @@ use block::write_block;
 use block::write_header;
 use sheet::block::BLOCK_BYTES;
 use sheet::layout::blocks_for;
-use sheet::layout::rows_in;
+use sheet::walk::first_row;
 
 // What writing a sheet gives: 0 with the count of bytes written, or the number of a refusal with 0.
 pub struct Written {
@@ -44,8 +44,7 @@ fn write_number(table: &[u16], separation: u16, tapes: &[u16], out: &[u8]) -> u1
     0
 }
 
-// Writes the file of a sheet that is accepted, and says how many bytes it has. `start` is the first byte of the block after block `place`,
-// and `first` its first node.
+// Writes the file of a sheet that is accepted, and says how many bytes it has.
 fn write_blocks(table: &[u16], separation: u16, tapes: &[u16], out: &mut [u8]) -> usize
     requires { ⌜ tableNumber (now table) ≡ 0 ⌝ }
     requires { ⌜ 2 * nodes (now table) ≤ length (now tapes) ⌝ }
@@ -54,17 +53,12 @@ fn write_blocks(table: &[u16], separation: u16, tapes: &[u16], out: &mut [u8]) -
 {
     let n = table.len() / 2;
     write_header(out, n, separation);
-    let mut place: usize = 0;
-    let mut first: usize = 0;
-    let mut start = BLOCK_BYTES;
-    while first < n {
-        let rows = rows_in(n, place);
-        place += 1;
-        write_block(&mut out[start..], place, table, tapes, first, rows);
-        first += rows;
-        start += BLOCK_BYTES;
+    let mut at = first_row();
+    while at.node < n {
+        let start = BLOCK_BYTES * at.block;
+        at = write_block(&mut out[start..], at, n, table, tapes);
     }
-    start
+    BLOCK_BYTES * blocks_for(n)
 }
 
 // Writes a sheet. Where it is accepted, its file stands at the start of `out`, and bytes past it are untouched; entries of `tapes` past

@@ -1,82 +1,91 @@
--- `rows::read_block` reads the first rows of a block. The invariant: both slices start with the pairs of the rows before. Assumes nothing.
-use mathlib.Core.Path.{_≡_, refl, ap, _∙_}
-use Prim.Native.Nat.{_+_, _-_, _*_, _≤_, _<_}
+-- `rows::read_block` reads the rows of a block from one on. The invariant: the walk stands at the row of a node, and the rows before it are
+-- read. Assumes nothing.
+use Prim.Native.Nat.{ℕ, _+_, _-_, _≤_, _<_}
 use native.Mathlib.Omega.{arith}
-use native.Mathlib.Nat.{le-antisymm}
-use lib.ListN.{length}
-use Rattle.refusal.specs.After.{overwrite}
-use Rattle.sheet.specs.Below.{joined}
-use Rattle.sheet.specs.Steps.{rowPair}
-use Rattle.sheet.proofs.Walk.{length-filled, filled-more}
+use mathlib.Core.List.{List}
+use Rattle.sheet.specs.Walk.{OnRow}
+use Rattle.sheet.specs.Steps.{Room, RowRead, RowsRead}
+use Rattle.sheet.proofs.Reading.{table-kept, tapes-kept, room-kept, row-more}
 use Rattle.sheet.proofs.rows.read_block.Statement.{statement}
 use Rattle.sheet.proofs.rows.read_block.Tie as tie
 
 abbrev Inv-loop : tie.InvT-loop
-Inv-loop block rows table₀ tapes₀ row₀ table tapes row =
-    (row ≤ rows) × (table ≡ overwrite (joined row (rowPair block 0)) table₀) × (tapes ≡ overwrite (joined row (rowPair block 2)) tapes₀)
+Inv-loop file nodes table₀ tapes₀ last at₀ table tapes at =
+    (OnRow at) × (at₀ .node ≤ at .node) × (at .node < nodes) × (RowsRead file (at .node) table₀ tapes₀ table tapes)
 
 abbrev μ-loop : tie.MeasureT-loop
-μ-loop block rows table₀ tapes₀ row₀ table tapes row = rows - row
+μ-loop file nodes table₀ tapes₀ last at₀ table tapes at = nodes - at .node
 
-table-room : (c : tie.In-loop Inv-loop μ-loop) → 2 * c .before .loop .row + 1 < length (c .before .loop .table)
-table-room c =
-    let a = c .before .before .before .before .before .args in
-    omega (arith, ap length (c .before .loop .inv .1), length-filled (a .block .now) 0 (a .table .now) (c .before .loop .row) (omega arith))
+-- at the loop's head
+module _ (h : tie.At-loop Inv-loop μ-loop) where
+  abbrev start : tie.Start Inv-loop μ-loop
+  start = h .before .before .before .before
 
-tapes-room : (c : tie.In-loop Inv-loop μ-loop) → 2 * c .before .loop .row + 1 < length (c .before .loop .tapes)
-tapes-room c =
-    let a = c .before .before .before .before .before .args in
-    omega (arith, ap length (c .before .loop .inv .2), length-filled (a .block .now) 2 (a .tapes .now) (c .before .loop .row) (omega arith))
+  room : (k : ℕ) → k ≤ start .args .nodes → Room k (start .args .file .now) (h .loop .table) (h .loop .tapes)
+  room k few = room-kept _ _ _ _ _ _ (h .loop .inv .3) k (start .args .nodes) few (omega arith) (start .pre .1 .0)
+
+  -- one row more is read
+  row-read : (table tapes : List ℕ) → RowRead (start .args .file .now) (h .loop .at .node) (h .loop .table) (h .loop .tapes) table tapes
+      → RowsRead (start .args .file .now) (h .loop .at .node + 1) (start .args .table .now) (start .args .tapes .now) table tapes
+  row-read table tapes row = row-more _ _ _ _ _ _ (h .loop .inv .3) (start .args .nodes) table tapes (h .loop .inv .2) (start .pre .1 .0) row
+
+sub-last : tie.Need-sub-last Inv-loop μ-loop
+sub-last c = omega arith
 
 loop-holds : tie.Need-loop-holds Inv-loop μ-loop
-unfolding overwrite joined
-loop-holds c = (omega arith, refl, refl)
+loop-holds c =
+    let s = c .before .before .before in
+    (s .pre .0 .0, omega arith, s .pre .0 .1, s .pre .1 .1)
 
-mul-from : tie.Need-mul-from Inv-loop μ-loop
-mul-from c = omega arith
+read-row-requires : tie.Need-read-row-requires Inv-loop μ-loop
+read-row-requires c κs =
+    let head = c .before .before .before .before .before .before in
+    (head .loop .inv .0, room head (head .loop .at .node + 1) (omega arith))
 
-add-from : tie.Need-add-from Inv-loop μ-loop
-add-from c = omega arith
-
-copy-pair-requires : tie.Need-copy-pair-requires Inv-loop μ-loop
-copy-pair-requires c κs = (omega arith, table-room (c .before))
-
-add-copy-pair : tie.Need-add-copy-pair Inv-loop μ-loop
-add-copy-pair c = omega arith
-
-copy-pair-requires-2 : tie.Need-copy-pair-requires-2 Inv-loop μ-loop
-copy-pair-requires-2 c κs = (omega arith, tapes-room (c .before .before .before .before .before))
-
-add-row : tie.Need-add-row Inv-loop μ-loop
-add-row c = omega arith
+next-row-requires : tie.Need-next-row-requires Inv-loop μ-loop
+next-row-requires c κs =
+    let head = c .before .before .before .before .before .before .before .before .before .before .before in
+    (head .loop .inv .0, omega (arith, start head .pre .0))
 
 loop-less : tie.Need-loop-less Inv-loop μ-loop
-loop-less c = omega arith
+loop-less c = omega (arith, c .next-row .ensures)
 
 loop-again : tie.Need-loop-again Inv-loop μ-loop
 loop-again c =
+    let head = c .before .before .before .before .before .before .before .before .before .before .before .before in
+    let next = c .next-row .ensures in
+    (next .1, omega arith, omega arith, rw (next .0) (row-read head _ _ (c .before .before .before .before .before .read-row .ensures)))
+
+read-row-requires-2 : tie.Need-read-row-requires-2 Inv-loop μ-loop
+read-row-requires-2 c κs =
+    let head = c .before .before .before .before in
+    (head .loop .inv .0, room head (head .loop .at .node + 1) (omega arith))
+
+next-row-requires-2 : tie.Need-next-row-requires-2 Inv-loop μ-loop
+next-row-requires-2 c κs =
     let head = c .before .before .before .before .before .before .before .before .before in
-    let a = head .before .before .before .before .args in
-    let block = a .block .now in (
-      omega arith,
-      filled-more block 0 (a .table .now) (head .loop .row) _ _ _ (omega arith) (omega arith) (head .loop .inv .1) (c .before .before .before .before .before .before .copy-pair .ensures),
-      filled-more block 2 (a .tapes .now) (head .loop .row) _ _ _ (omega arith) (omega arith) (head .loop .inv .2) (c .before .before .copy-pair2 .ensures),
-    )
+    (head .loop .inv .0, omega (arith, start head .pre .0))
 
 same-length : tie.Need-same-length Inv-loop μ-loop
 same-length c =
-    let a = c .before .before .before .before .before .args in
-    ap length (c .before .loop .inv .1) ∙ length-filled (a .block .now) 0 (a .table .now) (c .before .loop .row) (omega arith)
+    let head = c .before .before .before .before .before .before .before .before .before .before in
+    table-kept _ _ _ _ _ _ (row-read head _ _ (c .before .before .before .before .before .read-row2 .ensures)) (omega arith)
 
 same-length-2 : tie.Need-same-length-2 Inv-loop μ-loop
 same-length-2 c =
-    let a = c .before .before .before .before .before .args in
-    ap length (c .before .loop .inv .2) ∙ length-filled (a .block .now) 2 (a .tapes .now) (c .before .loop .row) (omega arith)
+    let head = c .before .before .before .before .before .before .before .before .before .before in
+    tapes-kept _ _ _ _ _ _ (row-read head _ _ (c .before .before .before .before .before .read-row2 .ensures)) (omega arith)
 
 returns : tie.Need-returns Inv-loop μ-loop
 returns c =
-    let all = le-antisymm (c .before .loop .inv .0) (c .loop-test .left) in
-    record { table-after = rw (← all) (c .before .loop .inv .1); tapes-after = rw (← all) (c .before .loop .inv .2) }
+    let head = c .before .before .before .before .before .before .before .before .before .before in
+    let next = c .next-row2 .ensures in
+    record {
+      on-row = next .1;
+      further = omega arith;
+      within = omega arith;
+      rows = rw (next .0) (row-read head _ _ (c .before .before .before .before .before .read-row2 .ensures));
+    }
 
 pub read-block-spec : {M : Type 1} → statement M
 read-block-spec =
@@ -84,15 +93,14 @@ read-block-spec =
     (tie.spec
     Inv-loop
     μ-loop
+    sub-last
     loop-holds
-    mul-from
-    add-from
-    copy-pair-requires
-    add-copy-pair
-    copy-pair-requires-2
-    add-row
+    read-row-requires
+    next-row-requires
     loop-less
     loop-again
+    read-row-requires-2
+    next-row-requires-2
     same-length
     same-length-2
     returns)

@@ -1,133 +1,58 @@
--- `rows::read_rows` reads the rows of all nodes. The invariant: `first` is the first node of the block after `place`, and both slices
--- start with the pairs of the nodes before it. Assumes nothing.
-use mathlib.Core.Path.{_≡_, refl, ap, _∙_}
-use Prim.Native.Nat.{_-_, _*_, min, _<_}
-use native.Mathlib.Nat.{le-refl}
+-- `rows::read_rows` reads the rows of all nodes. The invariant: the walk stands at the row of a node, and the rows before it are read.
+-- Assumes nothing.
+use Prim.Native.Nat.{_-_, _≤_}
+use native.Mathlib.Nat.{le-refl, le-antisymm}
 use native.Mathlib.Omega.{arith}
-use lib.ListN.{length}
-use borrow.Rule.Slice.PartMut.{mid-len}
-use Rattle.refusal.specs.After.{overwrite}
-use Rattle.sheet.specs.Below.{joined}
-use Rattle.sheet.specs.Layout.{blockRows}
-use Rattle.sheet.specs.Read.{tableOf, tapesOf}
-use Rattle.sheet.proofs.Walk.{length-read, read-more, some-rows, rows-end, fewer-left}
+use Rattle.sheet.specs.Walk.{OnRow}
+use Rattle.sheet.specs.Steps.{RowsRead}
+use Rattle.sheet.proofs.Reading.{table-kept, tapes-kept, room-kept, rows-more, rows-there, none-read}
 use Rattle.sheet.proofs.rows.read_rows.Statement.{statement}
 use Rattle.sheet.proofs.rows.read_rows.Tie as tie
 
 abbrev Inv-loop : tie.InvT-loop
-Inv-loop file nodes table₀ tapes₀ place₀ first₀ table tapes place first =
-    (first ≡ min nodes (blockRows * place)) × (table ≡ overwrite (tableOf file first) table₀) × (tapes ≡ overwrite (tapesOf file first) tapes₀)
+Inv-loop file nodes table₀ tapes₀ at₀ table tapes at =
+    (OnRow at) × (at .node ≤ nodes) × (RowsRead file (at .node) table₀ tapes₀ table tapes)
 
 abbrev μ-loop : tie.MeasureT-loop
-μ-loop file nodes table₀ tapes₀ place₀ first₀ table tapes place first = nodes - first
+μ-loop file nodes table₀ tapes₀ at₀ table tapes at = nodes - at .node
 
-first-of : (c : tie.In-loop Inv-loop μ-loop) → c .before .loop .first ≡ blockRows * c .before .loop .place
-first-of c = omega arith
-
-begun : (c : tie.In-loop Inv-loop μ-loop) → blockRows * c .before .loop .place < c .before .before .before .before .before .args .nodes
-begun c = omega (arith, first-of c)
-
-table-length : (c : tie.At-loop Inv-loop μ-loop) → length (c .loop .table) ≡ length (c .before .before .before .before .args .table .now)
-table-length c =
-    let a = c .before .before .before .before .args in
-    ap length (c .loop .inv .1) ∙ length-read (a .file .now) 0 (c .loop .first) (a .table .now) (omega arith)
-
-tapes-length : (c : tie.At-loop Inv-loop μ-loop) → length (c .loop .tapes) ≡ length (c .before .before .before .before .args .tapes .now)
-tapes-length c =
-    let a = c .before .before .before .before .args in
-    ap length (c .loop .inv .2) ∙ length-read (a .file .now) 2 (c .loop .first) (a .tapes .now) (omega arith)
+first-row-requires : tie.Need-first-row-requires Inv-loop μ-loop
+first-row-requires c κs = tt
 
 loop-holds : tie.Need-loop-holds Inv-loop μ-loop
-unfolding overwrite joined
-loop-holds c = (omega arith, refl, refl)
-
-rows-in-requires : tie.Need-rows-in-requires Inv-loop μ-loop
-rows-in-requires c κs = omega arith
-
-mul-start : tie.Need-mul-start Inv-loop μ-loop
-mul-start c = omega arith
-
-add-block-at : tie.Need-add-block-at Inv-loop μ-loop
-add-block-at c = omega arith
-
-block-at-requires : tie.Need-block-at-requires Inv-loop μ-loop
-block-at-requires c κs = omega arith
-
-mul-read-block : tie.Need-mul-read-block Inv-loop μ-loop
-mul-read-block c = omega arith
-
-sub-read-block : tie.Need-sub-read-block Inv-loop μ-loop
-sub-read-block c = omega (arith, table-length (c .before .before .before))
-
-part-read-block-start : tie.Need-part-read-block-start Inv-loop μ-loop
-part-read-block-start c = omega (arith, table-length (c .before .before .before))
-
-part-read-block-end : tie.Need-part-read-block-end Inv-loop μ-loop
-part-read-block-end c = omega arith
-
-mul-read-block-2 : tie.Need-mul-read-block-2 Inv-loop μ-loop
-mul-read-block-2 c = omega arith
-
-sub-read-block-2 : tie.Need-sub-read-block-2 Inv-loop μ-loop
-sub-read-block-2 c = omega (arith, tapes-length (c .before .before .before .before))
-
-part-read-block-start-2 : tie.Need-part-read-block-start-2 Inv-loop μ-loop
-part-read-block-start-2 c = omega (arith, tapes-length (c .before .before .before .before))
-
-part-read-block-end-2 : tie.Need-part-read-block-end-2 Inv-loop μ-loop
-part-read-block-end-2 c = omega arith
+loop-holds c =
+    let first = c .first-row .ensures in
+    (first .1, omega arith, rw (first .0) (none-read _ _ _))
 
 read-block-requires : tie.Need-read-block-requires Inv-loop μ-loop
 read-block-requires c κs =
-    let head = c .before .before .before .before .before in
-    let start = 2 * head .loop .first in
-    let few = c .before .before .before .rows-in .ensures in (
-      ((c .before .before .block-at .ensures .size, omega arith)),
-      (
-        omega (arith, first-of (c .before .before .before .before), table-length head, mid-len start (length (head .loop .table)) (head .loop .table) (le-refl _)),
-        omega (arith, first-of (c .before .before .before .before), tapes-length head, mid-len start (length (head .loop .tapes)) (head .loop .tapes) (le-refl _)),
-      ),
+    let head = c .before .before .before .before in
+    let s = head .before .before .before .before .before in
+    let read = head .loop .inv .2 in (
+      (head .loop .inv .0, omega arith, s .pre .0),
+      (room-kept _ _ _ _ _ _ read (s .args .nodes) (s .args .nodes) (le-refl _) (head .loop .inv .1) (s .pre .1), rows-there _ _ _ _ _ _ read),
     )
 
-add-place : tie.Need-add-place Inv-loop μ-loop
-add-place c = omega arith
-
-add-first : tie.Need-add-first Inv-loop μ-loop
-add-first c = omega arith
-
 loop-less : tie.Need-loop-less Inv-loop μ-loop
-loop-less c =
-    let counted = c .before .before .before .before .before .before .before .before in
-    let turn = counted .before in
-    let some : 0 < counted .rows-in .result = rw (counted .rows-in .ensures) (some-rows _ _ (begun turn)) in
-    fewer-left _ _ _ (turn .loop-test .taken) some
+loop-less c = omega (arith, c .before .before .before .before .read-block .ensures)
 
 loop-again : tie.Need-loop-again Inv-loop μ-loop
 loop-again c =
-    let turn = c .before .before .before .before .before .before .before .before .before in
-    let head = turn .before in
-    let a = head .before .before .before .before .args in
-    let first = first-of turn in
-    let rows = c .before .before .before .before .before .before .before .before .rows-in .ensures in
-    let block = c .before .before .before .before .before .before .before .block-at .ensures .bytes in
-    let read = c .before .before .before .before .read-block .ensures in (
-      rw (first, rows) (rows-end (a .nodes) (head .loop .place) (begun turn)),
-      read-more (a .file .now) 0 (head .loop .place) _ (head .loop .first) _ (a .table .now) (head .loop .table) _ (omega arith) first (omega arith) block
-          (head .loop .inv .1) (read .table-after),
-      read-more (a .file .now) 2 (head .loop .place) _ (head .loop .first) _ (a .tapes .now) (head .loop .tapes) _ (omega arith) first (omega arith) block
-          (head .loop .inv .2) (read .tapes-after),
-    )
+    let head = c .before .before .before .before .before .before .before .before .before in
+    let block = c .before .before .before .before .read-block .ensures in
+    (block .on-row, block .within, rows-more _ _ _ _ _ _ (head .loop .inv .2) _ _ _ (omega (arith, block)) (block .rows))
 
 same-length : tie.Need-same-length Inv-loop μ-loop
-same-length c = table-length (c .before)
+same-length c = table-kept _ _ _ _ _ _ (c .before .before .loop .inv .2) (omega arith)
 
 same-length-2 : tie.Need-same-length-2 Inv-loop μ-loop
-same-length-2 c = tapes-length (c .before)
+same-length-2 c = tapes-kept _ _ _ _ _ _ (c .before .before .loop .inv .2) (omega arith)
 
 returns : tie.Need-returns Inv-loop μ-loop
 returns c =
-    let all : c .before .loop .first ≡ c .before .before .before .before .before .args .nodes = omega arith in
-    record { table-after = rw (← all) (c .before .loop .inv .1); tapes-after = rw (← all) (c .before .loop .inv .2) }
+    let head = c .before .before in
+    let all = le-antisymm (head .loop .inv .1) (c .if1 .left) in
+    rw (← all) (head .loop .inv .2)
 
 pub read-rows-spec : {M : Type 1} → statement M
 read-rows-spec =
@@ -135,22 +60,9 @@ read-rows-spec =
     (tie.spec
     Inv-loop
     μ-loop
+    first-row-requires
     loop-holds
-    rows-in-requires
-    mul-start
-    add-block-at
-    block-at-requires
-    mul-read-block
-    sub-read-block
-    part-read-block-start
-    part-read-block-end
-    mul-read-block-2
-    sub-read-block-2
-    part-read-block-start-2
-    part-read-block-end-2
     read-block-requires
-    add-place
-    add-first
     loop-less
     loop-again
     same-length

@@ -1,70 +1,121 @@
--- `block::put_rows` stores the rows of nodes. The invariant: those of the nodes before are stored. Assumes nothing.
+-- `block::put_rows` stores the rows of a block. The invariant: the walk stands at the row of one of its nodes, and the rows before it are
+-- stored. Assumes nothing.
 use mathlib.Core.Path.{_≡_, sym, ap, _∙_}
-use Prim.Native.Nat.{_-_, _≤_}
-use native.Mathlib.Nat.{le-antisymm}
+use Prim.Native.Nat.{ℕ, _+_, _-_, _≤_, _<_}
 use native.Mathlib.Omega.{arith}
+use mathlib.Core.Logic.{inl, inr, ⊎-elim}
+use mathlib.Core.List.{List}
 use lib.ListN.{length}
+use borrow.Author.Tests.{ltb-true, ltb-false}
 use Rattle.sheet.specs.Below.{joined}
-use Rattle.sheet.specs.Layout.{firstWord}
-use Rattle.writer.specs.Steps.{storeWords, rowsFrom}
+use Rattle.sheet.specs.Layout.{firstWord, blockRows, rowWord, nodeWord}
+use Rattle.sheet.specs.File.{row}
+use Rattle.sheet.specs.Walk.{OnRow}
+use Rattle.writer.specs.Steps.{storeWords, rowsOf, rowsFrom}
 use Rattle.writer.proofs.Stored.{store-none, length-stored}
-use Rattle.writer.proofs.Rows.{rows-more}
+use Rattle.writer.proofs.Rows.{rows-more, row-word, one-further, none-further}
 use Rattle.writer.proofs.block.put_rows.Statement.{statement}
 use Rattle.writer.proofs.block.put_rows.Tie as tie
 
 abbrev Inv-loop : tie.InvT-loop
-Inv-loop block₀ table tapes first rows row₀ block row = (row ≤ rows) × (block ≡ storeWords block₀ firstWord (rowsFrom table tapes first row))
+Inv-loop block₀ nodes table tapes last at₀ block at =
+    (OnRow at) × (at₀ .node ≤ at .node) × (at .node < at₀ .node + rowsOf nodes at₀)
+    × (block ≡ storeWords block₀ firstWord (rowsFrom table tapes (at₀ .node) (at .node - at₀ .node)))
 
 abbrev μ-loop : tie.MeasureT-loop
-μ-loop block₀ table tapes first rows row₀ block row = rows - row
+μ-loop block₀ nodes table tapes last at₀ block at = nodes - at .node
 
-same-size : (c : tie.At-loop Inv-loop μ-loop) → length (c .loop .block) ≡ length (c .before .before .before .before .args .block .now)
-same-size c = ap length (c .loop .inv .1) ∙ length-stored _ firstWord _
+-- at the loop's head
+module _ (h : tie.At-loop Inv-loop μ-loop) where
+  abbrev start : tie.Start Inv-loop μ-loop
+  start = h .before .before .before .before
+
+  same-size : length (h .loop .block) ≡ length (start .args .block .now)
+  same-size = ap length (h .loop .inv .3) ∙ length-stored _ firstWord _
+
+  here : nodeWord (h .loop .at .node) ≡ rowWord (h .loop .at .node - start .args .from .node)
+  here = row-word _ _ _ _ (start .pre .0 .first) (h .loop .inv .1) (h .loop .inv .2)
+
+  -- one row more is stored, which makes k
+  row-stored : (k : ℕ) (last : List ℕ) → h .loop .at .node + 1 ≡ start .args .from .node + k
+      → last ≡ storeWords (h .loop .block) (nodeWord (h .loop .at .node)) (row (start .args .table .now) (start .args .tapes .now) (h .loop .at .node))
+      → last
+      ≡ storeWords (start .args .block .now) firstWord (rowsFrom (start .args .table .now) (start .args .tapes .now) (start .args .from .node) k)
+  row-stored k last count stored =
+      let before : ℕ = h .loop .at .node - start .args .from .node in
+      let node : start .args .from .node + before ≡ h .loop .at .node = omega arith in
+      let all : k ≡ before + 1 = omega arith in
+      rw all (rows-more _ _ _ _ _ last before (h .loop .inv .3) (rw (← here, node) stored))
+
+-- the loop is left at the block's last row
+ended : (c : tie.Joined1 Inv-loop μ-loop)
+    → c .before .before .loop .at .node + 1
+    ≡ start (c .before .before) .args .from .node + rowsOf (start (c .before .before) .args .nodes) (start (c .before .before) .args .from)
+ended c =
+    let head = c .before .before in
+    none-further _ _ _ _ (start head .pre .0 .first) (head .loop .inv .1) (head .loop .inv .2)
+    (⊎-elim (λ w. inr (rw (← head .loop .inv .0 .word) (ltb-false _ _ (w .2 .left)))) (λ w. inl (w .left)) (c .if1 .came))
+
+sub-last : tie.Need-sub-last Inv-loop μ-loop
+sub-last c = omega arith
 
 loop-holds : tie.Need-loop-holds Inv-loop μ-loop
 unfolding joined
-loop-holds c = (omega arith, sym (store-none _ firstWord))
+loop-holds c =
+    let s = c .before .before .before in
+    let none : s .args .from .node - s .args .from .node ≡ 0 = omega arith in
+    (s .pre .0 .on-row, omega arith, omega arith, rw none (sym (store-none _ firstWord)))
 
-mul-place : tie.Need-mul-place Inv-loop μ-loop
-mul-place c = omega arith
+put-row-requires : tie.Need-put-row-requires Inv-loop μ-loop
+put-row-requires c κs =
+    let head = c .before .before .before .before .before in
+    ((head .loop .inv .0, omega (arith, same-size head)), (omega arith, omega arith))
 
-add-place : tie.Need-add-place Inv-loop μ-loop
-add-place c = omega arith
-
-add-node : tie.Need-add-node Inv-loop μ-loop
-add-node c = omega arith
-
-put-pair-requires : tie.Need-put-pair-requires Inv-loop μ-loop
-put-pair-requires c κs = (omega (arith, same-size (c .before .before)), omega arith)
-
-add-put-pair : tie.Need-add-put-pair Inv-loop μ-loop
-add-put-pair c = omega arith
-
-put-pair-requires-2 : tie.Need-put-pair-requires-2 Inv-loop μ-loop
-put-pair-requires-2 c κs = (omega (arith, same-size (c .before .before .before .before .before .before)), omega arith)
-
-add-row : tie.Need-add-row Inv-loop μ-loop
-add-row c = omega arith
+next-row-requires : tie.Need-next-row-requires Inv-loop μ-loop
+next-row-requires c κs =
+    let head = c .before .before .before .before .before .before .before .before in
+    (head .loop .inv .0, omega (arith, start head .pre .0))
 
 loop-less : tie.Need-loop-less Inv-loop μ-loop
-loop-less c = omega arith
+loop-less c = omega (arith, c .next-row .ensures)
 
 loop-again : tie.Need-loop-again Inv-loop μ-loop
 loop-again c =
-    let head = c .before .before .before .before .before .before .before .before .before in
-    let a = head .before .before .before .before .args in (
+    let turn = c .before .before .before .before .before in
+    let head = turn .before .before .before .before in
+    let next = c .next-row .ensures in
+    let inside : nodeWord (head .loop .at .node) < rowWord (blockRows - 1) = rw (← head .loop .inv .0 .word) (ltb-true _ _ (turn .if2 .taken)) in
+    let one = one-further _ _ _ _ (start head .pre .0 .first) (head .loop .inv .1) (head .loop .inv .2) (turn .before .before .if1 .taken) inside in (
+      next .1,
       omega arith,
-      rows-more (a .table .now) (a .tapes .now) (a .first) (a .block .now) _ _ _ (head .loop .row) (head .loop .inv .1)
-          (c .before .before .before .before .before .before .put-pair .ensures) (c .before .before .put-pair2 .ensures),
+      rw (next .0) one,
+      row-stored head (c .next-row .result .node - start head .args .from .node) _ (omega arith) (c .before .before .before .put-row .ensures),
     )
 
+put-row-requires-2 : tie.Need-put-row-requires-2 Inv-loop μ-loop
+put-row-requires-2 c κs =
+    let head = c .before .before .before in
+    ((head .loop .inv .0, omega (arith, same-size head)), (omega arith, omega arith))
+
+next-row-requires-2 : tie.Need-next-row-requires-2 Inv-loop μ-loop
+next-row-requires-2 c κs =
+    let head = c .before .before .before .before .before .before in
+    (head .loop .inv .0, omega (arith, start head .pre .0))
+
 same-length : tie.Need-same-length Inv-loop μ-loop
-same-length c = same-size (c .before)
+same-length c =
+    let head = c .before .before .before .before .before .before .before in
+    ap length (c .before .before .before .put-row2 .ensures) ∙ length-stored _ _ _ ∙ same-size head
 
 returns : tie.Need-returns Inv-loop μ-loop
 returns c =
-    let all = le-antisymm (c .before .loop .inv .0) (c .loop-test .left) in
-    rw (← all) (c .before .loop .inv .1)
+    let joined = c .before .before .before .before .before in
+    let head = joined .before .before in
+    let next = c .next-row2 .ensures in
+    let all = ended joined in (
+      record { on-row = next .1; node = next .0 ∙ all },
+      row-stored head _ _ all (c .before .before .before .put-row2 .ensures),
+    )
 
 pub put-rows-spec : {M : Type 1} → statement M
 put-rows-spec =
@@ -72,15 +123,13 @@ put-rows-spec =
     (tie.spec
     Inv-loop
     μ-loop
+    sub-last
     loop-holds
-    mul-place
-    add-place
-    add-node
-    put-pair-requires
-    add-put-pair
-    put-pair-requires-2
-    add-row
+    put-row-requires
+    next-row-requires
     loop-less
     loop-again
+    put-row-requires-2
+    next-row-requires-2
     same-length
     returns)

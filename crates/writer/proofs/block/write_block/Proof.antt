@@ -3,13 +3,19 @@ use mathlib.Core.Path.{refl}
 use mathlib.Core.List.{[], _∷_}
 use native.Mathlib.Omega.{arith}
 use Rattle.sheet.specs.Layout.{rowWord}
-use Rattle.writer.specs.Steps.{rowsFrom}
+use Rattle.writer.specs.Steps.{rowsOf, rowsFrom}
 use Rattle.writer.proofs.Stored.{stored-next}
 use Rattle.writer.proofs.Rows.{length-rows}
 use Rattle.writer.proofs.Closed.{block-written}
 use borrow.Author.Needs.{needs}
 use Rattle.writer.proofs.block.write_block.Statement.{statement}
 use Rattle.writer.proofs.block.write_block.Tie as tie
+
+sub-rows-in : tie.Need-sub-rows-in
+sub-rows-in c = search needs
+
+rows-in-requires : tie.Need-rows-in-requires
+rows-in-requires c κs = search needs
 
 put-head-requires : tie.Need-put-head-requires
 put-head-requires c κs = search needs
@@ -38,17 +44,27 @@ returns c =
     let zeros = closed .before .before .before .before in
     let stored = zeros .before .before .before .before in
     let head = stored .before .before .before .before in
-    let a = head .before .before .before .before .before .args in
-    let rows = rowsFrom (a .table .now) (a .tapes .now) (a .first) (a .rows) in
-    let size = length-rows (a .table .now) (a .tapes .now) (a .first) (a .rows) in
-    let words = stored-next (a .block .now) 0 (a .place ∷ a .rows ∷ []) rows _ _ 2 refl (head .put-head .ensures) (stored .put-rows .ensures) in
-    block-written (a .place ∷ a .rows ∷ rows) (a .block .now) _ _ _ (rowWord (a .rows)) (omega arith) (omega arith) (omega arith) words
-    (zeros .put-zeros .ensures) (closed .close .ensures)
+    let counted = head .before .before in
+    let s = counted .before .before .before .before .before in
+    let a = s .args in
+    let count = counted .rows-in .ensures in
+    let rows = rowsFrom (a .table .now) (a .tapes .now) (a .from .node) (rowsOf (a .nodes) (a .from)) in
+    let size = length-rows (a .table .now) (a .tapes .now) (a .from .node) (rowsOf (a .nodes) (a .from)) in
+    let words =
+    stored-next (a .block .now) 0 (a .from .block ∷ rowsOf (a .nodes) (a .from) ∷ []) rows _ _ 2 refl (rw (← count) (head .put-head .ensures))
+    (stored .put-rows .ensures .1)
+    in (
+      stored .put-rows .ensures .0,
+      block-written (a .from .block ∷ rowsOf (a .nodes) (a .from) ∷ rows) (a .block .now) _ _ _ (rowWord (rowsOf (a .nodes) (a .from))) (omega arith)
+          (omega arith) (s .pre .1) words (rw (← count) (zeros .put-zeros .ensures)) (closed .close .ensures),
+    )
 
 pub write-block-spec : {M : Type 1} → statement M
 write-block-spec =
     tie.close
     (tie.spec
+    sub-rows-in
+    rows-in-requires
     put-head-requires
     put-rows-requires
     mul-put-zeros
