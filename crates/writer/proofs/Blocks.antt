@@ -39,14 +39,14 @@ module _ (n D : ℕ) (table tapes : List ℕ) where
   unfolding blockOver blockOf countWord content
   block-next b old = rw (add-one b)
 
-  pub block-more : (b place rows first : ℕ) (old current last : List ℕ) → place ≡ b + 1 → rows ≡ rowsIn n b → first ≡ blockRows * b
-      → blockBytes * place ≤ length old
+  pub block-more : (b place first : ℕ) (old current last : List ℕ) → place ≡ b + 1 → first ≡ blockRows * b → blockBytes * place ≤ length old
       → current ≡ overwrite (front place) old
-      → last ≡ blockOver (place ∷ rows ∷ rowsFrom table tapes first rows) (midOf (blockBytes * place) (length current - blockBytes * place) current)
+      → last
+      ≡ blockOver (place ∷ rowsIn n b ∷ rowsFrom table tapes first (rowsIn n b)) (midOf (blockBytes * place) (length current - blockBytes * place) current)
       → putMid (blockBytes * place) (length current - blockBytes * place) current last ≡ overwrite (front (place + 1)) old
-  block-more b place rows first old current last isPlace isRows isFirst room isCurrent isLast =
+  block-more b place first old current last isPlace isFirst room isCurrent isLast =
       overwrite-more (front place) (bytesOf (blockOf n D table tapes place)) old current last (blockBytes * place) (length-front place) room isCurrent
-      (isLast ∙ rw (isPlace, isRows, isFirst) (block-next b _))
+      (isLast ∙ rw (isPlace, isFirst) (block-next b _))
       ∙ ap (λ (new : List ℕ). overwrite new old) (sym (joined-more place (λ k. bytesOf (blockOf n D table tapes k))))
 
   -- the loop begins with the header written, and ends with all blocks

@@ -1,6 +1,6 @@
 -- `write_blocks` writes the header and then the blocks of rows. The invariant: the walk stands at the row of a node, the blocks of the nodes
 -- before it are whole, and the output starts with them. Assumes nothing.
-use mathlib.Core.Path.{_≡_, refl, sym, ap, _∙_}
+use mathlib.Core.Path.{_≡_, sym, ap, _∙_}
 use Prim.Native.Nat.{ℕ, _+_, _-_, _*_, _≤_, _<_}
 use native.Mathlib.Nat.{le-refl, lt-of-le-of-lt, mul-le-mul-left}
 use native.Mathlib.Omega.{arith}
@@ -155,8 +155,8 @@ loop-again c =
       past .on-row,
       whole-ended _ _ _ _ start-of-block left (past .node),
       rw next
-          (block-more (n s) (D s) (table s) (tapes s) (head .loop .at .block - 1) (head .loop .at .block) _ (head .loop .at .node) _ (head .loop .out) _
-          (omega (arith, place head left)) refl start-of-block (omega (arith, within head left, same-size head, header-size head)) (front-written head left)
+          (block-more (n s) (D s) (table s) (tapes s) (head .loop .at .block - 1) (head .loop .at .block) (head .loop .at .node) _ (head .loop .out) _
+          (omega (arith, place head left)) start-of-block (omega (arith, within head left, same-size head, header-size head)) (front-written head left)
           (written .write-block .ensures .1)),
     )
 
