@@ -1,0 +1,18 @@
+-- The law of the step: where the row of node r + 1 stands, from where that of node r does. Assumes nothing.
+use mathlib.Core.Path.{_≡_}
+use Prim.Native.Nat.{ℕ, _+_, _-_, _≤_, _<_}
+use native.Mathlib.Omega.{arith}
+use mathlib.Core.Bool.{Bool, true, false, cond}
+use lib.Dec.{ltb}
+use borrow.Author.Tests.{ltb-true, ltb-false}
+use Rattle.sheet.specs.Layout.{firstWord, blockRows, rowWords, rowWord, nodeBlock, nodeWord}
+
+-- it is the next row of the block, and after the block's last one the first of the next block
+pub row-after : (r : ℕ) (inside : Bool) → ltb (nodeWord r) (rowWord (blockRows - 1)) ≡ inside
+    → (nodeBlock (r + 1) ≡ cond inside (nodeBlock r) (nodeBlock r + 1)) × (nodeWord (r + 1) ≡ cond inside (nodeWord r + rowWords) firstWord)
+row-after r true h =
+    let inside : nodeWord r < rowWord (blockRows - 1) = ltb-true _ _ h in
+    (omega arith, omega arith)
+row-after r false h =
+    let last : rowWord (blockRows - 1) ≤ nodeWord r = ltb-false _ _ h in
+    (omega arith, omega arith)
