@@ -6,7 +6,7 @@ pub mod Blocks
 pub mod Example
 pub mod Fit
 pub mod Fixed
-pub mod NextRow
+pub mod Places
 pub mod Reading
 pub mod Rewritten
 pub mod RoundTrip

@@ -8,6 +8,7 @@ use lib.ListN.{length, replicate, length-replicate, replicate-append-replicate}
 use Rattle.sheet.specs.Layout.{firstWord, rowWords, rowWord, nodeWord, blockRows, rowsIn}
 use Rattle.sheet.specs.File.{row}
 use Rattle.sheet.proofs.Below.{joined-more, length-joined}
+use Rattle.sheet.proofs.Places.{row-at}
 use Rattle.writer.specs.Steps.{storeWords, rowsFrom}
 use Rattle.writer.proofs.Stored.{stored-next}
 
@@ -24,10 +25,6 @@ module _ (table tapes : List ℕ) (first : ℕ) where
       stored-next block firstWord (rowsFrom table tapes first k) (row table tapes (first + k)) current last (rowWord k) (omega (arith, length-rows k)) isCurrent
       isLast
       ∙ ap (storeWords block firstWord) (sym (joined-more k (λ i. row table tapes (first + i))))
-
--- row i of block b + 1
-row-at : (b i : ℕ) → i < blockRows → nodeWord (blockRows * b + i) ≡ rowWord i
-row-at b i l = omega arith
 
 -- node r stands in the block of rows whose first node is `first`
 module _ (n b first r : ℕ) (begins : first ≡ blockRows * b) (from : first ≤ r) (to : r < first + rowsIn n b) where

@@ -5,7 +5,7 @@ use native.Mathlib.Omega.{arith}
 use mathlib.Core.Bool.{true, false}
 use borrow.Author.Tests.{lt-ltb, le-ltb}
 use Rattle.sheet.specs.Layout.{blockRows, rowWord, nodeWord}
-use Rattle.sheet.proofs.NextRow.{row-after}
+use Rattle.sheet.proofs.Places.{row-after}
 use Rattle.sheet.proofs.walk.next_row.Statement.{statement}
 use Rattle.sheet.proofs.walk.next_row.Tie as tie
 

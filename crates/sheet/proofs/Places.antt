@@ -1,13 +1,17 @@
--- The law of the step: where the row of node r + 1 stands, from where that of node r does. Assumes nothing.
+-- Where rows stand in the file's layout: row i of a block, and the row of node r + 1 from that of node r. Assumes nothing.
 use mathlib.Core.Path.{_≡_}
-use Prim.Native.Nat.{ℕ, _+_, _-_, _≤_, _<_}
+use Prim.Native.Nat.{ℕ, _+_, _-_, _*_, _≤_, _<_}
 use native.Mathlib.Omega.{arith}
 use mathlib.Core.Bool.{Bool, true, false, cond}
 use lib.Dec.{ltb}
 use borrow.Author.Tests.{ltb-true, ltb-false}
 use Rattle.sheet.specs.Layout.{firstWord, blockRows, rowWords, rowWord, nodeBlock, nodeWord}
 
--- it is the next row of the block, and after the block's last one the first of the next block
+-- row i of block b + 1 is that of node blockRows * b + i
+pub row-at : (b i : ℕ) → i < blockRows → nodeWord (blockRows * b + i) ≡ rowWord i
+row-at b i l = omega arith
+
+-- the law of the step: the next row of the block, and after the block's last one the first of the next block
 pub row-after : (r : ℕ) (inside : Bool) → ltb (nodeWord r) (rowWord (blockRows - 1)) ≡ inside
     → (nodeBlock (r + 1) ≡ cond inside (nodeBlock r) (nodeBlock r + 1)) × (nodeWord (r + 1) ≡ cond inside (nodeWord r + rowWords) firstWord)
 row-after r true h =
