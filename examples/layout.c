@@ -14,10 +14,13 @@ int main(void)
 {
     /* The root 0 has the children 1 and 4, and node 1 has the children 2 and 3. */
     const uint16_t table[2 * N] = {1, NONE, 2, 4, NONE, 3, NONE, NONE, NONE, NONE};
+    /* Nodes 2 and 3 need 3 + 0 + 5 between them, nodes 1 and 4 need 3 + 2 + 1. */
+    const uint16_t half_widths[N] = {4, 2, 0, 5, 1};
     int32_t places[N], work[16 * N], least, greatest;
     uint16_t levels[N], record[2 * N], nodes, level_count, pairs;
-    uint16_t number = hiwenoka_layout(table, 2 * N, 3, places, N, levels, N, record, 2 * N,
-                                      work, 16 * N, &nodes, &level_count, &least, &greatest, &pairs);
+    uint16_t number = hiwenoka_layout(table, 2 * N, 3, half_widths, N, places, N, levels, N,
+                                      record, 2 * N, work, 16 * N, &nodes, &level_count,
+                                      &least, &greatest, &pairs);
     if (number != 0) {
         printf("refused %d\n", number);
         return 1;

@@ -7,7 +7,7 @@ extern "C" {
 
 fn main() -> io::Result<()> {
     let (mut file, mut text) = (Vec::new(), [0; 41_024]);
-    io::stdin().take(9_217).read_to_end(&mut file)?;
+    io::stdin().take(11_265).read_to_end(&mut file)?;
     // SAFETY: both pointers come from buffers of the stated lengths.
     let end = unsafe { hiwenoka_list_sheet(file.as_ptr(), file.len(), text.as_mut_ptr(), text.len()) };
     io::stdout().write_all(&text[..end])

@@ -11,6 +11,7 @@ extern "C" {
     ) -> u16;
     fn hiwenoka_write_sheet(
         table: *const u16, table_len: usize, separation: u16, tapes: *const u16, tapes_len: usize,
+        half_widths: *const u16, half_widths_len: usize,
         out: *mut u8, out_len: usize, bytes: &mut u16,
     ) -> u16;
     fn hiwenoka_list_sheet(file: *const u8, file_len: usize, out: *mut u8, out_len: usize) -> usize;
@@ -31,12 +32,14 @@ fn main() -> io::Result<()> {
     if number != 0 {
         return writeln!(io::stdout(), "refused {number}");
     }
-    // What was read is well-formed, so that it can be written.
+    // What was read is well-formed, so that it can be written; a text has no half-widths.
     let entries = 2 * usize::from(nodes);
-    let (mut file, mut bytes, mut text) = ([0; 9_216], 0, [0; 41_024]);
+    let half_widths = [0; 1_024];
+    let (mut file, mut bytes, mut text) = ([0; 11_264], 0, [0; 41_024]);
     let end = unsafe {
         hiwenoka_write_sheet(
             table.as_ptr(), entries, D, tapes.as_ptr(), entries,
+            half_widths.as_ptr(), usize::from(nodes),
             file.as_mut_ptr(), file.len(), &mut bytes,
         );
         hiwenoka_list_sheet(file.as_ptr(), usize::from(bytes), text.as_mut_ptr(), text.len())

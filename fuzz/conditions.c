@@ -65,24 +65,35 @@ unsigned table_number(const uint16_t *table, size_t len)
                                                             : 0;
 }
 
+int half_widths_refused(struct half_widths half_widths, size_t nodes)
+{
+    for (size_t node = 0; node < nodes; node++) {
+        if (node >= half_widths.len || half_widths.of[node] > 256) {
+            return 1;
+        }
+    }
+    return 0;
+}
+
 /* Whether the file's layout leaves this word open, or it has the value that is fixed. */
 static int fits(const uint8_t *file, size_t blocks, size_t nodes, size_t block, size_t word)
 {
     size_t rows = block + 1 < blocks ? BLOCK_ROWS : nodes - BLOCK_ROWS * (blocks - 2);
     size_t value = get_word(file, block, word);
     if (block == 0) {
-        return word == 0 || word == 2 || word == 3 || word == 255 || value == 0;
+        return word == 0 || word == 2 || word == 3 || word == 255 || value == (word == 1);
     }
     if (word == 1) {
         return value == rows;
     }
-    return word == 0 || word == 255 || word < 2 + 4 * rows || value == 0;
+    return word == 0 || word == 255 || word < 2 + 5 * rows || value == 0;
 }
 
-unsigned sheet_number(const uint8_t *file, size_t bytes, size_t table_len, size_t tapes_len)
+unsigned sheet_number(const uint8_t *file, size_t bytes, size_t table_len, size_t tapes_len,
+                      size_t widths_len)
 {
     size_t blocks = bytes / BLOCK_BYTES;
-    if (bytes % BLOCK_BYTES != 0 || bytes < 1024 || bytes > 9216) {
+    if (bytes % BLOCK_BYTES != 0 || bytes < 1024 || bytes > 11264) {
         return 9;
     }
     for (size_t block = 0; block < blocks; block++) {
@@ -113,16 +124,17 @@ unsigned sheet_number(const uint8_t *file, size_t bytes, size_t table_len, size_
             }
         }
     }
-    return table_len < 2 * nodes || tapes_len < 2 * nodes ? 7 : 0;
+    return table_len < 2 * nodes || tapes_len < 2 * nodes || widths_len < nodes ? 7 : 0;
 }
 
 unsigned write_number(const uint16_t *table, size_t len, uint16_t separation, size_t tapes_len,
-                      size_t out_len)
+                      struct half_widths half_widths, size_t out_len)
 {
     unsigned number = table_number(table, len);
     return number != 0                                    ? number
            : separation < 1 || separation > 1024          ? 6
            : tapes_len < len                              ? 13
+           : half_widths_refused(half_widths, len / 2)    ? 17
            : out_len < BLOCK_BYTES * block_count(len / 2) ? 7
                                                           : 0;
 }

@@ -20,6 +20,15 @@ void number_parents_first(const uint16_t *table, uint16_t *order)
     }
 }
 
+int32_t needed(int32_t separation, const uint16_t *half_widths, uint16_t left, uint16_t right)
+{
+    return separation + half_widths[left] + half_widths[right];
+}
+
+/* What neighbours need hangs on these. */
+static int32_t distance;
+static const uint16_t *width_of;
+
 static size_t conflicts, widest, remainder;
 
 /* By position. */
@@ -31,6 +40,11 @@ static size_t measured[MOST_NODES]; /* the right one of the pair, or 0 */
 
 static size_t family[MOST_NODES]; /* the positions of one node's children */
 
+static int32_t needed_at(size_t left, size_t right)
+{
+    return needed(distance, width_of, node_at[left], node_at[right]);
+}
+
 static void move_right(size_t root, int32_t distance)
 {
     for (size_t position = root; position < end[root]; position++) {
@@ -40,18 +54,18 @@ static void move_right(size_t root, int32_t distance)
 
 /* Steps 2 to 4 for child j. right_contour has the last position of each level of those joined, down
    to the level `joined`. */
-static void join(size_t j, int32_t separation, const size_t *right_contour, size_t joined)
+static void join(size_t j, const size_t *right_contour, size_t joined)
 {
     size_t left_contour[MOST_NODES], root = family[j], deepest = level[root];
     for (size_t position = end[root]; position-- > root;) {
         left_contour[level[position]] = position;
         deepest = level[position] > deepest ? level[position] : deepest;
     }
-    move_right(root, place[family[j - 1]] + separation - place[root]);
+    move_right(root, place[family[j - 1]] + needed_at(family[j - 1], root) - place[root]);
     for (size_t walked = level[root]; walked <= deepest && walked <= joined; walked++) {
         size_t left = right_contour[walked], right = left_contour[walked];
         measured[left] = right;
-        int32_t s = separation - (place[right] - place[left]);
+        int32_t s = needed_at(left, right) - (place[right] - place[left]);
         if (s > 0) {
             size_t i = 0;
             while (end[family[i]] <= left) {
@@ -71,7 +85,7 @@ static void join(size_t j, int32_t separation, const size_t *right_contour, size
 }
 
 /* Steps 2 to 5 for a node whose children are drawn. */
-static void draw_family(size_t parent, int32_t separation)
+static void draw_family(size_t parent)
 {
     size_t right_contour[MOST_NODES], joined = 0, count = 0;
     for (size_t root = parent + 1; root < end[parent]; root = end[root]) {
@@ -82,7 +96,7 @@ static void draw_family(size_t parent, int32_t separation)
         if (j == 0) {
             move_right(family[0], -place[family[0]]);
         } else {
-            join(j, separation, right_contour, joined);
+            join(j, right_contour, joined);
         }
         for (size_t position = family[j]; j + 1 < count && position < end[family[j]]; position++) {
             right_contour[level[position]] = position;
@@ -95,11 +109,14 @@ static void draw_family(size_t parent, int32_t separation)
     }
 }
 
-void draw(const uint16_t *table, size_t nodes, int32_t separation, struct drawing *drawing)
+void draw(const uint16_t *table, size_t nodes, int32_t separation, const uint16_t *half_widths,
+          struct drawing *drawing)
 {
     size_t at[MOST_NODES];
     uint16_t right_of[MOST_NODES]; /* by node: the right neighbour, or NONE */
     conflicts = widest = remainder = 0;
+    distance = separation;
+    width_of = half_widths;
     walk_levels(table, nodes, &drawing->levels);
     memset(right_of, 0xff, sizeof right_of);
     for (size_t i = 0; i < 2 * drawing->levels.pairs; i += 2) {
@@ -118,7 +135,7 @@ void draw(const uint16_t *table, size_t nodes, int32_t separation, struct drawin
         for (; child != NONE; child = table[2 * child + 1]) {
             end[position] = end[at[child]];
         }
-        draw_family(position, separation);
+        draw_family(position);
     }
     drawing->conflicts = conflicts;
     drawing->widest = widest;

@@ -9,12 +9,22 @@
 /* The first of the conditions 1 to 5 and 14 that holds of a table, or 0. */
 unsigned table_number(const uint16_t *table, size_t len);
 
-/* The first of 9 to 12 and 7 that holds, or 0. */
-unsigned sheet_number(const uint8_t *file, size_t bytes, size_t table_len, size_t tapes_len);
+/* Half-widths as they are lent. */
+struct half_widths {
+    const uint16_t *of; /* by node number */
+    size_t len;
+};
 
-/* The first of 1 to 5, 14, 6, 13 and 7 that holds of a sheet to be written, or 0. */
+/* Whether 17 holds for so many nodes. */
+int half_widths_refused(struct half_widths half_widths, size_t nodes);
+
+/* The first of 9 to 12 and 7 that holds, or 0. */
+unsigned sheet_number(const uint8_t *file, size_t bytes, size_t table_len, size_t tapes_len,
+                      size_t widths_len);
+
+/* The first of 1 to 5, 14, 6, 13, 17 and 7 that holds of a sheet to be written, or 0. */
 unsigned write_number(const uint16_t *table, size_t len, uint16_t separation, size_t tapes_len,
-                      size_t out_len);
+                      struct half_widths half_widths, size_t out_len);
 
 struct family {
     size_t nodes; /* or 0 if the text is no tree */
@@ -35,7 +45,11 @@ struct drawing {
     size_t conflicts, widest, remainder; /* how many, and the greatest k and r of one */
 };
 
+/* The distance that two neighbours need. */
+int32_t needed(int32_t separation, const uint16_t *half_widths, uint16_t left, uint16_t right);
+
 /* Where each node of a well-formed table stands: steps 1 to 6. */
-void draw(const uint16_t *table, size_t nodes, int32_t separation, struct drawing *drawing);
+void draw(const uint16_t *table, size_t nodes, int32_t separation, const uint16_t *half_widths,
+          struct drawing *drawing);
 
 #endif

@@ -5,12 +5,15 @@
  *     byte 0         the operation, modulo 8
  *     byte 1         what is done to the rest, see the bits below
  *     bytes 2, 3     the separation, low byte first, as are all words
- *     bytes 4 to 7   for each slice besides the table, file or text, how many entries more than
+ *     bytes 4 to 8   for each slice besides the table, file or text, how many entries more than
  *                    needed, signed
- *     bytes 8 to 11  where a damage goes, and its word
+ *     byte 9         the greatest half-width, or 0 for the greatest that is taken
+ *     bytes 10 to 13 where a damage goes, and its word
  *     the rest       a table's words, or the bytes of a file or a Newick text; or, with TREE, one
- *                    byte for each node after the root, which says how far it hangs above the node
- *                    before it
+ *                    byte for each node after the root, whose low half says how far it hangs above
+ *                    the node before it
+ *
+ * The high half of the rest's byte r says how great the half-width of node r is.
  */
 
 #include "hiwenoka.h"
@@ -27,15 +30,17 @@ enum {
     CLOSED = 8,       /* then every block's sum is made zero */
     AFTER_GUARD = 16, /* the slices start after a guarded page, and do not end at one */
     CUT = 32,         /* before any damage, a part of the tree is cut off as a stray */
-    RING = 64         /* with CUT: parts of it are joined to rings instead */
+    RING = 64,        /* with CUT: parts of it are joined to rings instead */
+    WIDE = 128        /* a half-width is replaced by the damage's word */
 };
 
-enum { HEAD = 12, MOST_ENTRIES = (MOST_FILE + BLOCK_BYTES) / 2 };
+enum { HEAD = 14, MOST_ENTRIES = (MOST_FILE + BLOCK_BYTES) / 2 };
 
 struct input {
     unsigned bits;
     uint16_t separation;
-    int8_t slack[4];
+    int8_t slack[5];
+    uint8_t widest;
     uint16_t index, word;
     const uint8_t *rest;
     size_t rest_len;
@@ -61,6 +66,21 @@ static size_t length(const struct input *input, int slice, size_t needed)
 {
     int slack = input->slack[slice];
     return slack < 0 && needed < (size_t)-slack ? 0 : needed + (size_t)slack;
+}
+
+/* So many half-widths, of which those of the first nodes hang on the rest and the others are any
+   words; with WIDE, one of them is the damage's. */
+static void widths_of(const struct input *input, size_t nodes, uint16_t *half_widths, size_t len)
+{
+    size_t greatest = input->widest == 0 ? MOST_HALF_WIDTH : input->widest;
+    make_tapes(half_widths, len);
+    for (size_t node = 0; node < nodes && node < len; node++) {
+        size_t high = node < input->rest_len ? input->rest[node] / 16u : 0;
+        half_widths[node] = (uint16_t)(greatest * high / 15);
+    }
+    if ((input->bits & WIDE) && len > 0) {
+        half_widths[input->index % len] = input->word;
+    }
 }
 
 /* A byte says that a node is the child of the node before it, of that node's parent, and so on. */
@@ -108,10 +128,11 @@ static size_t file_of(const struct input *input, uint8_t *file)
 {
     size_t bytes = at_most(input->rest_len, MOST_FILE + BLOCK_BYTES);
     if (input->bits & TREE) {
-        uint16_t table[2 * MOST_NODES + 2], tapes[2 * MOST_NODES];
+        uint16_t table[2 * MOST_NODES + 2], tapes[2 * MOST_NODES], half_widths[MOST_NODES];
         size_t nodes = at_most(tree_of(input, table) / 2, MOST_NODES);
         make_tapes(tapes, 2 * nodes);
-        bytes = make_sheet(file, table, tapes, nodes, input->separation);
+        widths_of(input, nodes, half_widths, nodes);
+        bytes = make_sheet(file, table, tapes, half_widths, nodes, input->separation);
     } else {
         memcpy(file, input->rest, bytes);
     }
@@ -219,12 +240,14 @@ static void renumber(const struct input *input, const uint16_t *entries, size_t 
 
 /* What the paper says of places without naming them. */
 static void expect_promises(const uint16_t *entries, const int32_t *place, size_t nodes,
-                            int32_t separation, const struct levels *levels)
+                            int32_t separation, const uint16_t *half_widths,
+                            const struct levels *levels)
 {
     expect(place[0] == 0, "the root is at 0");
     for (size_t i = 0; i < 2 * levels->pairs; i += 2) {
         uint16_t left = levels->record[i], right = levels->record[i + 1];
-        expect(place[right] - place[left] >= separation, "neighbours keep the separation");
+        expect(place[right] - place[left] >= needed(separation, half_widths, left, right),
+               "neighbours keep the distance they need");
     }
     for (size_t node = 0; node < nodes; node++) {
         uint16_t first = entries[2 * node], last = first;
@@ -239,36 +262,42 @@ static void expect_promises(const uint16_t *entries, const int32_t *place, size_
 static void layout(const struct input *input, const uint16_t *entries, size_t len)
 {
     static struct drawing drawing;
+    static uint16_t half_widths[MOST_NODES + 1 + INT8_MAX];
     /* Slices for a table that is too long anyway need not be longer than for the longest. */
     size_t n = at_most(len / 2, MOST_NODES + 1);
     size_t places_len = length(input, 0, n), levels_len = length(input, 1, n);
     size_t record_len = length(input, 2, 2 * n), work_len = length(input, 3, 16 * n);
+    size_t widths_len = length(input, 4, n);
+    widths_of(input, n, half_widths, widths_len);
     struct lent table = lend_input(entries, 2 * len);
+    struct lent widths = lend_input(half_widths, 2 * widths_len);
     struct lent places = lend_output(4 * places_len), levels = lend_output(2 * levels_len);
     struct lent record = lend_output(2 * record_len), work = lend_output(4 * work_len);
     struct lent nodes = lend_output(2), level_count = lend_output(2), pairs = lend_output(2);
     struct lent least = lend_output(4), greatest = lend_output(4);
-    unsigned number = hiwenoka_layout(table.start, len, input->separation, places.start, places_len,
-                                      levels.start, levels_len, record.start, record_len,
-                                      work.start, work_len, nodes.start, level_count.start,
-                                      least.start, greatest.start, pairs.start);
+    unsigned number = hiwenoka_layout(table.start, len, input->separation, widths.start, widths_len,
+                                      places.start, places_len, levels.start, levels_len,
+                                      record.start, record_len, work.start, work_len, nodes.start,
+                                      level_count.start, least.start, greatest.start, pairs.start);
     unsigned wanted = table_number(entries, len);
-    wanted = wanted != 0                                                      ? wanted
-             : input->separation < 1 || input->separation > 1024              ? 6
-             : places_len < n || levels_len < n || record_len < 2 * n         ? 7
-             : work_len < 16 * n                                              ? 8
-                                                                              : 0;
+    wanted = wanted != 0                                                             ? wanted
+             : input->separation < 1 || input->separation > 1024                     ? 6
+             : half_widths_refused((struct half_widths){half_widths, widths_len}, n) ? 17
+             : places_len < n || levels_len < n || record_len < 2 * n                ? 7
+             : work_len < 16 * n                                                     ? 8
+                                                                                     : 0;
     expect_number(&table, number, wanted);
+    expect_written(&widths, 0);
     if (number != 0) {
         n = 0;
         drawing.levels.count = drawing.levels.pairs = 0;
         drawing.least = drawing.greatest = 0;
     } else {
-        draw(entries, n, input->separation, &drawing);
+        draw(entries, n, input->separation, half_widths, &drawing);
         drawn[0][digits(n)][digits(drawing.levels.count)] = 1;
         drawn[1][digits(drawing.conflicts)][digits(drawing.widest)] = 1;
         drawn[2][digits(drawing.widest)][digits(drawing.remainder)] = 1;
-        expect_promises(entries, places.start, n, input->separation, &drawing.levels);
+        expect_promises(entries, places.start, n, input->separation, half_widths, &drawing.levels);
     }
     expect(memcmp(places.start, drawing.place, 4 * n) == 0, "the places are those of the rule");
     expect_written(&places, 4 * n);
@@ -287,47 +316,66 @@ static void layout(const struct input *input, const uint16_t *entries, size_t le
 static void write_sheet(const struct input *input, const uint16_t *entries, size_t len)
 {
     static uint16_t words[2 * MOST_NODES + 2 + INT8_MAX];
+    static uint16_t half_widths[MOST_NODES + 1 + INT8_MAX];
     static uint8_t file[MOST_FILE];
     size_t n = at_most(len / 2, MOST_NODES + 1), tapes_len = length(input, 0, 2 * n);
     size_t out_len = length(input, 1, BLOCK_BYTES * block_count(n));
+    size_t widths_len = length(input, 2, n);
     make_tapes(words, tapes_len);
+    widths_of(input, n, half_widths, widths_len);
     struct lent table = lend_input(entries, 2 * len), tapes = lend_input(words, 2 * tapes_len);
+    struct lent widths = lend_input(half_widths, 2 * widths_len);
     struct lent out = lend_output(out_len), bytes = lend_output(2);
     unsigned number = hiwenoka_write_sheet(table.start, len, input->separation, tapes.start,
-                                           tapes_len, out.start, out_len, bytes.start);
-    unsigned wanted = write_number(entries, len, input->separation, tapes_len, out_len);
+                                           tapes_len, widths.start, widths_len, out.start, out_len,
+                                           bytes.start);
+    unsigned wanted = write_number(entries, len, input->separation, tapes_len,
+                                   (struct half_widths){half_widths, widths_len}, out_len);
     expect_number(&table, number, wanted);
     expect_written(&tapes, 0);
-    size_t written = number == 0 ? make_sheet(file, entries, words, n, input->separation) : 0;
+    expect_written(&widths, 0);
+    size_t written = 0;
+    if (number == 0) {
+        written = make_sheet(file, entries, words, half_widths, n, input->separation);
+    }
     expect_word(&bytes, written);
     expect_bytes(&out, file, written);
 }
 
-/* The table and the tape numbers of a file's first rows. */
-static void rows_of(const uint8_t *file, size_t nodes, uint16_t *table, uint16_t *tapes)
+/* The table, the tape numbers and the half-widths of a file's first rows. */
+static void rows_of(const uint8_t *file, size_t nodes, uint16_t *table, uint16_t *tapes,
+                    uint16_t *half_widths)
 {
-    for (size_t i = 0; i < 2 * nodes; i++) {
-        size_t node = i / 2, word = 2 + 4 * (node % BLOCK_ROWS) + i % 2;
-        table[i] = get_word(file, 1 + node / BLOCK_ROWS, word);
-        tapes[i] = get_word(file, 1 + node / BLOCK_ROWS, word + 2);
+    for (size_t node = 0; node < nodes; node++) {
+        size_t block = 1 + node / BLOCK_ROWS, word = 2 + ROW_WORDS * (node % BLOCK_ROWS);
+        for (size_t i = 0; i < 2; i++) {
+            table[2 * node + i] = get_word(file, block, word + i);
+            tapes[2 * node + i] = get_word(file, block, word + 2 + i);
+        }
+        half_widths[node] = get_word(file, block, word + 4);
     }
 }
 
 static void read_sheet(const struct input *input, const uint8_t *bytes, size_t len)
 {
     uint16_t wanted_table[2 * MOST_NODES], wanted_tapes[2 * MOST_NODES];
+    uint16_t wanted_widths[MOST_NODES];
     size_t n = len < BLOCK_BYTES ? 0 : at_most(get_word(bytes, 0, 2), MOST_NODES);
     size_t table_len = length(input, 0, 2 * n), tapes_len = length(input, 1, 2 * n);
+    size_t widths_len = length(input, 2, n);
     struct lent file = lend_input(bytes, len);
     struct lent table = lend_output(2 * table_len), tapes = lend_output(2 * tapes_len);
+    struct lent widths = lend_output(2 * widths_len);
     struct lent nodes = lend_output(2), separation = lend_output(2);
     unsigned number = hiwenoka_read_sheet(file.start, len, table.start, table_len, tapes.start,
-                                          tapes_len, nodes.start, separation.start);
-    expect_number(&file, number, sheet_number(bytes, len, table_len, tapes_len));
+                                          tapes_len, widths.start, widths_len, nodes.start,
+                                          separation.start);
+    expect_number(&file, number, sheet_number(bytes, len, table_len, tapes_len, widths_len));
     n = number == 0 ? n : 0;
-    rows_of(bytes, n, wanted_table, wanted_tapes);
+    rows_of(bytes, n, wanted_table, wanted_tapes, wanted_widths);
     expect_words(&table, wanted_table, 2 * n);
     expect_words(&tapes, wanted_tapes, 2 * n);
+    expect_words(&widths, wanted_widths, n);
     expect_word(&nodes, n);
     expect_word(&separation, number == 0 ? get_word(bytes, 0, 3) : 0);
 }
@@ -336,16 +384,19 @@ static void read_sheet(const struct input *input, const uint8_t *bytes, size_t l
 static int print_plainly(const uint8_t *file, size_t bytes, char *text)
 {
     static struct drawing drawing;
-    uint16_t table[2 * MOST_NODES], tapes[2 * MOST_NODES];
-    unsigned number = sheet_number(file, bytes, 2 * MOST_NODES, 2 * MOST_NODES);
+    uint16_t table[2 * MOST_NODES], tapes[2 * MOST_NODES], half_widths[MOST_NODES];
+    unsigned number = sheet_number(file, bytes, 2 * MOST_NODES, 2 * MOST_NODES, MOST_NODES);
     size_t nodes = number == 0 ? get_word(file, 0, 2) : 0;
-    rows_of(file, nodes, table, tapes);
+    rows_of(file, nodes, table, tapes, half_widths);
     number = number == 0 ? table_number(table, 2 * nodes) : number;
+    if (number == 0 && half_widths_refused((struct half_widths){half_widths, nodes}, nodes)) {
+        number = 17;
+    }
     if (number != 0) {
         return sprintf(text, "refused %u\n", number);
     }
     uint16_t separation = get_word(file, 0, 3);
-    draw(table, nodes, separation, &drawing);
+    draw(table, nodes, separation, half_widths, &drawing);
     int len = sprintf(text, "sheet %zu %zu %d %d %d\n", nodes, drawing.levels.count, separation,
                       drawing.least, drawing.greatest);
     for (size_t node = 0; node < nodes; node++) {
@@ -448,12 +499,13 @@ int LLVMFuzzerTestOneInput(const uint8_t *data, size_t size)
     struct input input = {
         .bits = data[1],
         .separation = get_word(data, 0, 1),
-        .index = get_word(data, 0, 4),
-        .word = get_word(data, 0, 5),
+        .widest = data[9],
+        .index = get_word(data, 0, 5),
+        .word = get_word(data, 0, 6),
         .rest = data + HEAD,
         .rest_len = size - HEAD,
     };
-    memcpy(input.slack, data + 4, 4);
+    memcpy(input.slack, data + 4, 5);
     /* What is cut off, what the slices hold, a sheet's tapes and a text's labels hang on the input
        alone. */
     seed_random(input.separation + 65536 * (uint64_t)size);

@@ -7,6 +7,9 @@
  * A tree table has two entries for each node: first child, then next sibling. 65535 means none.
  * Nodes are numbered from 0, and node 0 is the root. n is the count of nodes.
  *
+ * Half-widths have one entry for each node, from 0 to 256. The distance that neighbours need is the
+ * separation plus both their half-widths.
+ *
  * Each function but hiwenoka_list_sheet returns 0 if it accepts, and otherwise the number of the
  * first of its conditions that holds. After a refusal its other results are 0 and every slice is
  * as it was. After an acceptance entries past those named here are as they were.
@@ -19,7 +22,7 @@
  *    6  the separation is not in 1 to 1024
  *    7  a slice that is to be written is too short
  *    8  the working slice is too short
- *    9  the file's length is no multiple of 512, below 1024 or above 9216
+ *    9  the file's length is no multiple of 512, below 1024 or above 11264
  *   10  the words of a block do not add up to 0 modulo 65536
  *   11  a block's first word is not its place, counted from 0
  *   12  n or D is not in 1 to 1024, the file's length is not that of n, or a word that the file's
@@ -29,6 +32,7 @@
  *       copies of each other in a circle
  *   15  the text is no Newick text of a tree
  *   16  the tree of the text has more than 1024 nodes
+ *   17  the slice of half-widths is too short, or a half-width is above 256
  *
  * A function tries its conditions in the order in which it names them.
  */
@@ -39,6 +43,9 @@
 #include <stddef.h>
 #include <stdint.h>
 
+/* The interface. 2: half-widths. A header without this macro is that of interface 1. */
+#define HIWENOKA_INTERFACE 2
+
 #ifdef __cplusplus
 extern "C" {
 #endif
@@ -47,15 +54,18 @@ extern "C" {
 uint16_t hiwenoka_check_table(const uint16_t *table, size_t table_len, uint16_t *nodes);
 
 /*
- * Lays a tree out: 0 to 5, 14; 6; 7 if places or levels has fewer than n entries or record fewer
- * than 2n; 8 if work has fewer than 16n. Writes each node's place to the first n entries of places
- * and its level to the first n of levels, by node number, and the pairs of neighbours, left node
- * first, to the first 2 * pairs entries of record: level by level from the top, left to right on
- * each level. The first 16n entries of work, whatever they held, are 0 afterwards. Writes n to
- * nodes, the count of levels to level_count, the least and the greatest place to least and
- * greatest, and the count of pairs to pairs.
+ * Lays a tree out: 0 to 5, 14; 6; 17 if half_widths has fewer than n entries or one of its first n
+ * is above 256; 7 if places or levels has fewer than n entries or record fewer than 2n; 8 if work
+ * has fewer than 16n. half_widths has each node's half-width in its first n entries; those past
+ * them are not looked at. Writes each node's place to the first n entries of places and its level
+ * to the first n of levels, by node number, and the pairs of neighbours, left node first, to the
+ * first 2 * pairs entries of record: level by level from the top, left to right on each level. The
+ * first 16n entries of work, whatever they held, are 0 afterwards. Writes n to nodes, the count of
+ * levels to level_count, the least and the greatest place to least and greatest, and the count of
+ * pairs to pairs.
  */
 uint16_t hiwenoka_layout(const uint16_t *table, size_t table_len, uint16_t separation,
+                         const uint16_t *half_widths, size_t half_widths_len,
                          int32_t *places, size_t places_len,
                          uint16_t *levels, size_t levels_len,
                          uint16_t *record, size_t record_len,
@@ -81,13 +91,15 @@ uint16_t hiwenoka_renumber(const uint16_t *table, size_t table_len,
 
 /*
  * Reads a sheet file: 0, or the first of 9, 10, 11, 12, and then 7 if table or tapes has fewer
- * than 2n entries. Writes n to nodes, D to separation, the table to the first 2n entries of table,
- * and each node's tape number, low word then high word, to the first 2n entries of tapes. The tree
- * itself is not judged.
+ * than 2n entries or half_widths fewer than n. Writes n to nodes, D to separation, the table to the
+ * first 2n entries of table, each node's tape number, low word then high word, to the first 2n
+ * entries of tapes, and its half-width to the first n entries of half_widths. Neither the tree nor
+ * the half-widths are judged. A file of interface 1 is refused 12.
  */
 uint16_t hiwenoka_read_sheet(const uint8_t *file, size_t file_len,
                              uint16_t *table, size_t table_len,
                              uint16_t *tapes, size_t tapes_len,
+                             uint16_t *half_widths, size_t half_widths_len,
                              uint16_t *nodes, uint16_t *separation);
 
 /*
@@ -103,13 +115,16 @@ uint16_t hiwenoka_read_newick(const uint8_t *text, size_t text_len,
                               uint16_t *tapes, size_t tapes_len, uint16_t *nodes);
 
 /*
- * Writes a sheet file: 0 to 5, 14; 6; 13 if tapes has fewer than 2n entries; 7 if out has fewer
- * bytes than the file: 512, and 512 more for each 63 nodes or part of 63, at most 9216. tapes has
- * each node's tape number, low word then high word, in its first 2n entries; those past them are
- * not looked at. Writes the file to the start of out and its length to bytes.
+ * Writes a sheet file: 0 to 5, 14; 6; 13 if tapes has fewer than 2n entries; 17 if half_widths has
+ * fewer than n entries or one of its first n is above 256; 7 if out has fewer bytes than the file:
+ * 512, and 512 more for each 50 nodes or part of 50, at most 11264. tapes has each node's tape
+ * number, low word then high word, in its first 2n entries, and half_widths its half-width in its
+ * first n; entries past these are not looked at. Writes the file to the start of out and its length
+ * to bytes.
  */
 uint16_t hiwenoka_write_sheet(const uint16_t *table, size_t table_len, uint16_t separation,
                               const uint16_t *tapes, size_t tapes_len,
+                              const uint16_t *half_widths, size_t half_widths_len,
                               uint8_t *out, size_t out_len, uint16_t *bytes);
 
 /* The bytes of out with which hiwenoka_list_sheet can print any sheet. */
@@ -119,8 +134,8 @@ uint16_t hiwenoka_write_sheet(const uint16_t *table, size_t table_len, uint16_t 
  * Reads a sheet file, lays its tree out and writes the text of the listing to out: the line
  * "sheet", n, the count of levels, D, the least and the greatest place; then for each node a line
  * with its number, level, place and tape number. A refusal is only the line "refused" and its
- * number: the first of 9 to 12, and then of 1 to 5, 14. Returns the number of bytes written. Where
- * out has fewer than HIWENOKA_TEXT_ROOM bytes, writes nothing and returns 0.
+ * number: the first of 9 to 12, and then of 1 to 5, 14, 17. Returns the number of bytes written.
+ * Where out has fewer than HIWENOKA_TEXT_ROOM bytes, writes nothing and returns 0.
  */
 size_t hiwenoka_list_sheet(const uint8_t *file, size_t file_len, uint8_t *out, size_t out_len);
 

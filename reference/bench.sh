@@ -159,12 +159,14 @@ for part in "$@"; do
         build bench_pointer
         {
             measure bench_layout hiwenoka_layout layout
+            measure bench_layout hiwenoka_layout wide
             measure bench_layout hiwenoka_check_table check
-        } | report "Layout, and the table check in it: instructions a node, by count of nodes"
+        } | report "Layout without and with half-widths, and the table check in it: instructions a node, by count of nodes"
         {
             measure bench_pointer pointer_places places
             measure bench_pointer pointer_record record
-        } | report "Published pointer method: instructions a node, by count of nodes"
+            measure bench_pointer pointer_record wide
+        } | report "Published pointer method without and with half-widths: instructions a node, by count of nodes"
         ;;
     time)
         build time_layout
@@ -198,7 +200,7 @@ for part in "$@"; do
         if has_d3; then
             node d3_listing.js "$results" >"$results/d3"
         fi
-        echo "Whole way of a sheet of 1,024 nodes, from its bytes to its listing (D = 5, tape numbers of up to 32 bits)"
+        echo "Whole way of a sheet of 1,024 nodes, from its bytes to its listing (D = 5, tape numbers of up to 32 bits, half-widths 0)"
         echo "instructions: one call of hiwenoka_list_sheet, and a node; by hand; the whole program, its start included"
         echo "time: nanoseconds of one call, and how many times as long the others take in the same run"
         echo "  model    the Rust reference: the written rule, taken literally"

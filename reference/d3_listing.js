@@ -10,8 +10,8 @@ const { least } = require("./least.js");
 
 const NONE = 65535;
 const BLOCK_BYTES = 512;
-const BLOCK_ROWS = 63;
-const ROW_BYTES = 8;
+const BLOCK_ROWS = 50;
+const ROW_BYTES = 10;
 
 function read(file) {
   const bytes = new DataView(file.buffer, file.byteOffset, file.length);
@@ -22,6 +22,7 @@ function read(file) {
       firstChild: bytes.getUint16(row, true),
       nextSibling: bytes.getUint16(row + 2, true),
       tape: bytes.getUint32(row + 4, true),
+      halfWidth: bytes.getUint16(row + 8, true),
       children: [],
     };
   });
@@ -33,7 +34,9 @@ function read(file) {
 
 function listing(file) {
   const { separation, nodes } = read(file);
-  const root = tree().nodeSize([separation, 1]).separation(() => 1)(hierarchy(nodes[0]));
+  // d3 names the two nodes in either order.
+  const needed = (a, b) => separation + a.data.halfWidth + b.data.halfWidth;
+  const root = tree().nodeSize([1, 1]).separation(needed)(hierarchy(nodes[0]));
   const lines = new Array(1 + nodes.length);
   let least = 0;
   let greatest = 0;

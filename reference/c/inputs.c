@@ -148,21 +148,38 @@ void make_tapes(uint16_t *tapes, size_t len)
     }
 }
 
-size_t make_sheet(uint8_t *file, const uint16_t *table, const uint16_t *tapes, size_t nodes,
-                  uint16_t separation)
+void make_half_widths(uint16_t *half_widths, size_t nodes)
+{
+    static const size_t bounds[] = {0, 3, MOST_HALF_WIDTH, MOST_HALF_WIDTH};
+    size_t kind = below(4);
+    for (size_t node = 0; node < nodes; node++) {
+        half_widths[node] = (uint16_t)(kind == 3 ? bounds[kind] : below(bounds[kind] + 1));
+    }
+}
+
+void damage_half_widths(uint16_t *half_widths, size_t nodes)
+{
+    half_widths[below(nodes)]
+        = (uint16_t)(MOST_HALF_WIDTH + 1 + (below(2) == 0 ? 0 : below(65535 - MOST_HALF_WIDTH)));
+}
+
+size_t make_sheet(uint8_t *file, const uint16_t *table, const uint16_t *tapes,
+                  const uint16_t *half_widths, size_t nodes, uint16_t separation)
 {
     size_t blocks = block_count(nodes);
     memset(file, 0, blocks * BLOCK_BYTES);
+    put_word(file, 0, 1, 1);
     put_word(file, 0, 2, nodes);
     put_word(file, 0, 3, separation);
     for (size_t node = 0; node < nodes; node++) {
-        size_t block = 1 + node / BLOCK_ROWS, row = node % BLOCK_ROWS;
+        size_t block = 1 + node / BLOCK_ROWS, row = node % BLOCK_ROWS, word = 2 + ROW_WORDS * row;
         put_word(file, block, 0, block);
         put_word(file, block, 1, row + 1);
-        put_word(file, block, 2 + 4 * row, table[2 * node]);
-        put_word(file, block, 3 + 4 * row, table[2 * node + 1]);
-        put_word(file, block, 4 + 4 * row, tapes[2 * node]);
-        put_word(file, block, 5 + 4 * row, tapes[2 * node + 1]);
+        put_word(file, block, word, table[2 * node]);
+        put_word(file, block, word + 1, table[2 * node + 1]);
+        put_word(file, block, word + 2, tapes[2 * node]);
+        put_word(file, block, word + 3, tapes[2 * node + 1]);
+        put_word(file, block, word + 4, half_widths[node]);
     }
     for (size_t block = 0; block < blocks; block++) {
         close_block(file, block);
@@ -186,7 +203,7 @@ size_t damage_sheet(uint8_t *file, size_t bytes, unsigned number)
         close_block(file, block);
         return bytes;
     default:
-        switch (below(6)) {
+        switch (below(7)) {
         case 0: /* a count of nodes */
             put_word(file, 0, 2, below(2) == 0 ? 0 : MOST_NODES + 1 + below(64511));
             break;
@@ -197,14 +214,17 @@ size_t damage_sheet(uint8_t *file, size_t bytes, unsigned number)
             put_word(file, 0, 4 + below(251), 1 + below(65535));
             break;
         case 3: /* a count of rows */
-            put_word(file, blocks - 1, 1, 64 + below(65472));
+            put_word(file, blocks - 1, 1, BLOCK_ROWS + 1 + below(65535 - BLOCK_ROWS));
             close_block(file, blocks - 1);
             break;
-        case 4: /* the word before the closing one */
-            put_word(file, blocks - 1, 254, 1 + below(65535));
+        case 4: /* a word between the rows and the closing one */
+            put_word(file, blocks - 1, 252 + below(3), 1 + below(65535));
             close_block(file, blocks - 1);
             break;
-        case 5: /* a block too many, or too few for the nodes */
+        case 5: /* the word that tells layouts apart */
+            put_word(file, 0, 1, below(2) == 0 ? 0 : 2 + below(65534));
+            break;
+        case 6: /* a block too many, or too few for the nodes */
             if (bytes == MOST_FILE) {
                 return bytes - BLOCK_BYTES;
             }

@@ -7,7 +7,8 @@
 #include <stdint.h>
 
 enum { NONE = 65535, MOST_NODES = 1024 };
-enum { BLOCK_WORDS = 256, BLOCK_BYTES = 512, BLOCK_ROWS = 63, MOST_FILE = 18 * BLOCK_BYTES };
+enum { BLOCK_WORDS = 256, BLOCK_BYTES = 512, BLOCK_ROWS = 50, MOST_FILE = 22 * BLOCK_BYTES };
+enum { ROW_WORDS = 5, MOST_HALF_WIDTH = 256 };
 enum { MOST_TEXT = 16384 };
 
 /* A well-formed table of so many nodes, of some shape, numbered at random but for the root. */
@@ -33,9 +34,16 @@ size_t block_count(size_t nodes);
 /* So many words of any tape numbers. */
 void make_tapes(uint16_t *tapes, size_t len);
 
-/* Writes the sheet file of a table with two words of tapes for each node. Its length. */
-size_t make_sheet(uint8_t *file, const uint16_t *table, const uint16_t *tapes, size_t nodes,
-                  uint16_t separation);
+/* So many half-widths: none, small ones, any, or the greatest. */
+void make_half_widths(uint16_t *half_widths, size_t nodes);
+
+/* Makes one of so many half-widths too great. */
+void damage_half_widths(uint16_t *half_widths, size_t nodes);
+
+/* Writes the sheet file of a table with two words of tapes and a half-width for each node. Its
+   length. */
+size_t make_sheet(uint8_t *file, const uint16_t *table, const uint16_t *tapes,
+                  const uint16_t *half_widths, size_t nodes, uint16_t separation);
 
 /* Damages a sheet file so that this condition, 9 to 12, is the first that holds. Its new length,
    at most MOST_FILE + BLOCK_BYTES. */

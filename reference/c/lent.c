@@ -8,7 +8,7 @@
 
 /* Rooms for slices with guards between them. An index of 16 bits, even into rows of 16 entries of 4
    bytes, does not reach over a guard. */
-enum { ROOMS = 10, ROOM = 20 * 4096, GUARD = 8 << 20 };
+enum { ROOMS = 11, ROOM = 20 * 4096, GUARD = 8 << 20 };
 
 static unsigned char *memory; /* a guard, then each room with a guard after it */
 static unsigned char pattern[2 * ROOM];

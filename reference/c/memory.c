@@ -18,6 +18,8 @@
 #include <stdlib.h>
 #include <string.h>
 
+_Static_assert(HIWENOKA_INTERFACE == 2, "the interface with half-widths");
+
 enum operation { CHECK, LAYOUT, MIRROR, RENUMBER, READ, WRITE, LIST, NEWICK, OPERATIONS };
 
 static const char *const names[OPERATIONS]
@@ -26,10 +28,10 @@ static const char *const names[OPERATIONS]
 
 /* The numbers that each operation can give, as bits. */
 static const unsigned possible[OPERATIONS]
-    = {0x403f, 0x41ff, 0x40bf, 0x40bf, 0x1e81, 0x60ff, 0x5ebd, 0x18081};
+    = {0x403f, 0x241ff, 0x40bf, 0x40bf, 0x1e81, 0x260ff, 0x25ebd, 0x18081};
 
 /* The number that a call must give is not known. */
-enum { ANY = 17 };
+enum { ANY = 18 };
 
 static unsigned long given[OPERATIONS][ANY];
 static enum placing placing;
@@ -62,25 +64,51 @@ static void check_table(const uint16_t *entries, size_t len, unsigned wanted)
     expect(number != 0 || *(uint16_t *)nodes.start == len / 2, "n is half the length");
 }
 
+/* Half-widths for so many nodes, and then a few words of any kind. */
+static void make_widths(uint16_t *widths, size_t nodes)
+{
+    make_half_widths(widths, nodes);
+    make_tapes(widths + nodes, 16);
+}
+
+static const uint16_t *some_widths(size_t nodes)
+{
+    static uint16_t widths[MOST_NODES + 17];
+    make_widths(widths, nodes);
+    return widths;
+}
+
+/* The same with one of them too great. */
+static const uint16_t *wrong_widths(size_t nodes)
+{
+    static uint16_t widths[MOST_NODES + 17];
+    make_widths(widths, nodes);
+    damage_half_widths(widths, nodes);
+    return widths;
+}
+
 /* Counts of entries. */
 struct lengths {
-    size_t places, levels, record, work;
+    size_t widths, places, levels, record, work;
 };
 
 static void layout(const uint16_t *entries, size_t len, uint16_t separation,
-                   struct lengths lengths, unsigned wanted)
+                   const uint16_t *half_widths, struct lengths lengths, unsigned wanted)
 {
     take_back(placing);
     struct lent table = lend_input(entries, 2 * len);
+    struct lent widths = lend_input(half_widths, 2 * lengths.widths);
     struct lent places = lend_output(4 * lengths.places), levels = lend_output(2 * lengths.levels);
     struct lent record = lend_output(2 * lengths.record), work = lend_output(4 * lengths.work);
     struct lent nodes = lend_output(2), level_count = lend_output(2), pairs = lend_output(2);
     struct lent least = lend_output(4), greatest = lend_output(4);
-    uint16_t number = hiwenoka_layout(table.start, len, separation, places.start, lengths.places,
-                                      levels.start, lengths.levels, record.start, lengths.record,
-                                      work.start, lengths.work, nodes.start, level_count.start,
-                                      least.start, greatest.start, pairs.start);
+    uint16_t number = hiwenoka_layout(table.start, len, separation, widths.start, lengths.widths,
+                                      places.start, lengths.places, levels.start, lengths.levels,
+                                      record.start, lengths.record, work.start, lengths.work,
+                                      nodes.start, level_count.start, least.start, greatest.start,
+                                      pairs.start);
     expect_number(LAYOUT, &table, number, wanted);
+    expect_written(&widths, 0);
     expect_field(&nodes, number);
     expect_field(&level_count, number);
     expect_field(&least, number);
@@ -125,42 +153,49 @@ static void renumber(const uint16_t *entries, size_t len, size_t out_len, size_t
 }
 
 static void read_sheet(const uint8_t *bytes, size_t len, size_t table_len, size_t tapes_len,
-                       unsigned wanted)
+                       size_t widths_len, unsigned wanted)
 {
     take_back(placing);
     struct lent file = lend_input(bytes, len);
     struct lent table = lend_output(2 * table_len), tapes = lend_output(2 * tapes_len);
+    struct lent widths = lend_output(2 * widths_len);
     struct lent nodes = lend_output(2), separation = lend_output(2);
     uint16_t number = hiwenoka_read_sheet(file.start, len, table.start, table_len, tapes.start,
-                                          tapes_len, nodes.start, separation.start);
+                                          tapes_len, widths.start, widths_len, nodes.start,
+                                          separation.start);
     expect_number(READ, &file, number, wanted);
     expect_field(&nodes, number);
     expect_field(&separation, number);
     size_t n = *(uint16_t *)nodes.start;
     expect_written(&table, 4 * n);
     expect_written(&tapes, 4 * n);
+    expect_written(&widths, 2 * n);
 }
 
-/* Counts of tape words and of bytes. */
+/* Counts of tape words, of half-widths and of bytes. */
 struct room {
-    size_t tapes, out;
+    size_t tapes, widths, out;
 };
 
-static void write_sheet(const uint16_t *entries, size_t len, uint16_t separation, struct room room,
-                        unsigned wanted)
+static void write_sheet(const uint16_t *entries, size_t len, uint16_t separation,
+                        const uint16_t *half_widths, struct room room, unsigned wanted)
 {
     static uint16_t words[2 * MOST_NODES + 16];
     static uint8_t file[MOST_FILE];
     make_tapes(words, room.tapes);
     take_back(placing);
     struct lent table = lend_input(entries, 2 * len), tapes = lend_input(words, 2 * room.tapes);
+    struct lent widths = lend_input(half_widths, 2 * room.widths);
     struct lent out = lend_output(room.out), bytes = lend_output(2);
     uint16_t number = hiwenoka_write_sheet(table.start, len, separation, tapes.start, room.tapes,
-                                           out.start, room.out, bytes.start);
+                                           widths.start, room.widths, out.start, room.out,
+                                           bytes.start);
     expect_number(WRITE, &table, number, wanted);
     expect_written(&tapes, 0);
+    expect_written(&widths, 0);
     expect_field(&bytes, number);
-    size_t written = number == 0 ? make_sheet(file, entries, words, len / 2, separation) : 0;
+    size_t written
+        = number == 0 ? make_sheet(file, entries, words, half_widths, len / 2, separation) : 0;
     expect(*(uint16_t *)bytes.start == written, "the length of the file");
     expect_bytes(&out, file, written);
 }
@@ -217,12 +252,12 @@ static uint16_t wrong_separation(void)
 /* Just long enough for so many nodes. */
 static struct lengths exact(size_t nodes)
 {
-    return (struct lengths){nodes, nodes, 2 * nodes, 16 * nodes};
+    return (struct lengths){nodes, nodes, nodes, 2 * nodes, 16 * nodes};
 }
 
 static struct room exact_room(size_t nodes)
 {
-    return (struct room){2 * nodes, BLOCK_BYTES * block_count(nodes)};
+    return (struct room){2 * nodes, nodes, BLOCK_BYTES * block_count(nodes)};
 }
 
 /* The five operations on a table, with slices that are just long enough. */
@@ -230,10 +265,10 @@ static void every_operation(const uint16_t *table, size_t len, unsigned wanted)
 {
     size_t nodes = (len + 1) / 2;
     check_table(table, len, wanted);
-    layout(table, len, some_separation(), exact(nodes), wanted);
+    layout(table, len, some_separation(), some_widths(nodes), exact(nodes), wanted);
     mirror(table, len, 2 * nodes, wanted);
     renumber(table, len, 2 * nodes, nodes, wanted);
-    write_sheet(table, len, some_separation(), exact_room(nodes), wanted);
+    write_sheet(table, len, some_separation(), some_widths(nodes), exact_room(nodes), wanted);
 }
 
 /* Lengths that are wrong for any table. */
@@ -262,7 +297,10 @@ static void damaged_tables(const uint16_t *table, size_t nodes)
         memcpy(damaged, table, 4 * nodes);
         damage_tree(damaged, nodes, numbers[i]);
         every_operation(damaged, 2 * nodes, numbers[i]);
-        listings(file, make_sheet(file, damaged, tapes, nodes, some_separation()), numbers[i]);
+        /* The tree is judged before the half-widths. */
+        const uint16_t *widths = below(2) == 0 ? some_widths(nodes) : wrong_widths(nodes);
+        size_t bytes = make_sheet(file, damaged, tapes, widths, nodes, some_separation());
+        listings(file, bytes, numbers[i]);
     }
     memcpy(damaged, table, 4 * nodes);
     for (size_t count = 1 + below(4); count > 0; count--) {
@@ -276,22 +314,31 @@ static void other_lengths(const uint16_t *table, size_t nodes)
 {
     size_t len = 2 * nodes, shorter = below(2) == 0 ? 1 : nodes;
     uint16_t separation = some_separation();
-    for (unsigned slice = 0; slice < 4; slice++) {
+    for (unsigned slice = 0; slice < 5; slice++) {
         struct lengths lengths = exact(nodes);
         lengths.places -= slice == 0 ? shorter : 0;
         lengths.levels -= slice == 1 ? shorter : 0;
         lengths.record -= slice == 2 ? shorter : 0;
         lengths.work -= slice == 3 ? shorter : 0;
-        layout(table, len, separation, lengths, slice == 3 ? 8 : 7);
-        layout(table, len, wrong_separation(), lengths, 6);
+        lengths.widths -= slice == 4 ? shorter : 0;
+        unsigned number = slice == 4 ? 17 : slice == 3 ? 8 : 7;
+        layout(table, len, separation, some_widths(nodes), lengths, number);
+        if (below(2) == 0) {
+            layout(table, len, separation, wrong_widths(nodes), lengths, 17);
+        } else {
+            layout(table, len, wrong_separation(), wrong_widths(nodes), lengths, 6);
+        }
     }
-    layout(table, len, separation, (struct lengths){0, 0, 0, 0}, 7);
+    layout(table, len, separation, some_widths(nodes), (struct lengths){nodes, 0, 0, 0, 0}, 7);
+    layout(table, len, separation, some_widths(nodes), (struct lengths){0, 0, 0, 0, 0}, 17);
+    layout(table, len, separation, wrong_widths(nodes), exact(nodes), 17);
     struct lengths longer = exact(nodes);
+    longer.widths += 1 + below(9);
     longer.places += 1 + below(9);
     longer.levels += 1 + below(9);
     longer.record += 1 + below(9);
     longer.work += 1 + below(33);
-    layout(table, len, separation, longer, 0);
+    layout(table, len, separation, some_widths(nodes), longer, 0);
     mirror(table, len, len - shorter, 7);
     mirror(table, len, len + 1 + below(9), 0);
     renumber(table, len, len - shorter, nodes, 7);
@@ -303,16 +350,25 @@ static void other_lengths(const uint16_t *table, size_t nodes)
 static void other_rooms(const uint16_t *table, size_t nodes)
 {
     size_t len = 2 * nodes;
-    struct room room = exact_room(nodes), longer = {len + 1 + below(9), room.out + 1 + below(999)};
-    struct room few_tapes = {len - 1, room.out}, small = {len, room.out - 1}, none = {0, 0};
-    struct room a_block_less = {longer.tapes, room.out - BLOCK_BYTES};
-    write_sheet(table, len, wrong_separation(), room, 6);
-    write_sheet(table, len, wrong_separation(), below(2) == 0 ? few_tapes : none, 6);
-    write_sheet(table, len, some_separation(), few_tapes, 13);
-    write_sheet(table, len, some_separation(), none, 13);
-    write_sheet(table, len, some_separation(), small, 7);
-    write_sheet(table, len, some_separation(), a_block_less, 7);
-    write_sheet(table, len, some_separation(), longer, 0);
+    struct room room = exact_room(nodes), longer = room, none = {0, 0, 0}, few_tapes = room;
+    struct room few_widths = room, small = room, a_block_less = room;
+    longer.tapes += 1 + below(9);
+    longer.widths += 1 + below(9);
+    longer.out += 1 + below(999);
+    few_tapes.tapes--;
+    few_widths.widths--;
+    small.out--;
+    a_block_less.out -= BLOCK_BYTES;
+    const uint16_t *some = some_widths(nodes), *wrong = wrong_widths(nodes);
+    write_sheet(table, len, wrong_separation(), some, room, 6);
+    write_sheet(table, len, wrong_separation(), wrong, below(2) == 0 ? few_tapes : none, 6);
+    write_sheet(table, len, some_separation(), wrong, few_tapes, 13);
+    write_sheet(table, len, some_separation(), some, none, 13);
+    write_sheet(table, len, some_separation(), some, few_widths, 17);
+    write_sheet(table, len, some_separation(), wrong, below(2) == 0 ? room : small, 17);
+    write_sheet(table, len, some_separation(), some, small, 7);
+    write_sheet(table, len, some_separation(), some, a_block_less, 7);
+    write_sheet(table, len, some_separation(), some, longer, 0);
 }
 
 static void sheets(const uint16_t *table, size_t nodes)
@@ -320,18 +376,24 @@ static void sheets(const uint16_t *table, size_t nodes)
     uint8_t file[MOST_FILE + BLOCK_BYTES] = {0}, damaged[MOST_FILE + BLOCK_BYTES];
     uint16_t tapes[2 * MOST_NODES];
     make_tapes(tapes, 2 * nodes);
-    size_t bytes = make_sheet(file, table, tapes, nodes, some_separation());
-    size_t len = 2 * nodes, shorter = below(2) == 0 ? 1 : len;
-    read_sheet(file, bytes, len, len, 0);
-    read_sheet(file, bytes, len - shorter, len, 7);
-    read_sheet(file, bytes, len, len - shorter, 7);
-    read_sheet(file, bytes, len + 1 + below(9), len + 1 + below(9), 0);
+    size_t bytes
+        = make_sheet(file, table, tapes, wrong_widths(nodes), nodes, some_separation());
+    size_t len = 2 * nodes, shorter = below(2) == 0 ? 1 : nodes;
+    /* A half-width is carried as it is, but not laid out. */
+    read_sheet(file, bytes, len, len, nodes, 0);
+    listings(file, bytes, 17);
+    make_sheet(file, table, tapes, some_widths(nodes), nodes, some_separation());
+    read_sheet(file, bytes, len, len, nodes, 0);
+    read_sheet(file, bytes, len - shorter, len, nodes, 7);
+    read_sheet(file, bytes, len, len - shorter, nodes, 7);
+    read_sheet(file, bytes, len, len, nodes - shorter, 7);
+    read_sheet(file, bytes, len + 1 + below(9), len + 1 + below(9), nodes + 1 + below(9), 0);
     listings(file, bytes, 0);
     list_sheet(file, bytes, HIWENOKA_TEXT_ROOM + 1 + below(9), 0);
     for (unsigned number = 9; number <= 12; number++) {
         memcpy(damaged, file, sizeof file);
         size_t damaged_bytes = damage_sheet(damaged, bytes, number);
-        read_sheet(damaged, damaged_bytes, len, len, number);
+        read_sheet(damaged, damaged_bytes, len, len, nodes, number);
         listings(damaged, damaged_bytes, number);
     }
 }
@@ -384,7 +446,7 @@ static void texts(const uint16_t *table, size_t nodes)
 /* Small trees often, and those at the edges of a block and of the whole range. */
 static size_t some_size(void)
 {
-    static const size_t edges[] = {1, 2, 63, 64, 65, 126, 127, 1008, 1009, 1023, 1024};
+    static const size_t edges[] = {1, 2, 49, 50, 51, 100, 101, 1000, 1001, 1023, 1024};
     switch (below(4)) {
     case 0:
         return edges[below(11)];

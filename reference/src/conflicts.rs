@@ -31,9 +31,9 @@ pub struct Tally {
 
 impl Tally {
     /// Adds the conflicts of a well-formed table.
-    pub fn add(&mut self, table: &[u16], separation: u16) {
+    pub fn add(&mut self, table: &[u16], separation: u16, half_widths: &[u16]) {
         let mut gaps_of_child: BTreeMap<_, BTreeSet<i64>> = BTreeMap::new();
-        for conflict in conflicts(table, separation) {
+        for conflict in conflicts(table, separation, half_widths) {
             self.kinds.insert(kind_of(&conflict));
             // With r = 1 the odd unit falls in the gap before child j.
             if conflict.r() > 1 {

@@ -11,6 +11,8 @@ mod raw {
             table: *const u16,
             table_len: usize,
             separation: u16,
+            half_widths: *const u16,
+            half_widths_len: usize,
             places: *mut i32,
             places_len: usize,
             levels: *mut u16,
@@ -46,6 +48,8 @@ mod raw {
             table_len: usize,
             tapes: *mut u16,
             tapes_len: usize,
+            half_widths: *mut u16,
+            half_widths_len: usize,
             nodes: *mut u16,
             separation: *mut u16,
         ) -> u16;
@@ -55,6 +59,8 @@ mod raw {
             separation: u16,
             tapes: *const u16,
             tapes_len: usize,
+            half_widths: *const u16,
+            half_widths_len: usize,
             out: *mut u8,
             out_len: usize,
             bytes: *mut u16,
@@ -102,13 +108,21 @@ pub struct Fields {
 }
 
 #[inline]
-pub fn layout(table: &[u16], separation: u16, lent: &mut Slices, fields: &mut Fields) -> u16 {
+pub fn layout(
+    table: &[u16],
+    separation: u16,
+    half_widths: &[u16],
+    lent: &mut Slices,
+    fields: &mut Fields,
+) -> u16 {
     // SAFETY: as in `check_table`; neither slices nor fields overlap.
     unsafe {
         raw::hiwenoka_layout(
             table.as_ptr(),
             table.len(),
             separation,
+            half_widths.as_ptr(),
+            half_widths.len(),
             lent.places.as_mut_ptr(),
             lent.places.len(),
             lent.levels.as_mut_ptr(),
@@ -152,6 +166,7 @@ pub fn read_sheet(
     file: &[u8],
     table: &mut [u16],
     tapes: &mut [u16],
+    half_widths: &mut [u16],
     nodes: &mut u16,
     separation: &mut u16,
 ) -> u16 {
@@ -164,6 +179,8 @@ pub fn read_sheet(
             table.len(),
             tapes.as_mut_ptr(),
             tapes.len(),
+            half_widths.as_mut_ptr(),
+            half_widths.len(),
             nodes,
             separation,
         )
@@ -175,6 +192,7 @@ pub fn write_sheet(
     table: &[u16],
     separation: u16,
     tapes: &[u16],
+    half_widths: &[u16],
     out: &mut [u8],
     bytes: &mut u16,
 ) -> u16 {
@@ -186,6 +204,8 @@ pub fn write_sheet(
             separation,
             tapes.as_ptr(),
             tapes.len(),
+            half_widths.as_ptr(),
+            half_widths.len(),
             out.as_mut_ptr(),
             out.len(),
             bytes,

@@ -1,9 +1,10 @@
 //! Makers of sheet files: sound ones of many trees, damaged ones, and bytes that are no sheet.
 
+use crate::half_widths;
 use crate::random::Random;
 use crate::shapes::{self, random_table};
-use crate::sheet::{self, words_of, Sheet, BLOCK_BYTES, BLOCK_WORDS, MOST_BLOCKS};
-use crate::table::NONE;
+use crate::sheet::{self, words_of, Sheet, BLOCK_BYTES, BLOCK_ROWS, BLOCK_WORDS, MOST_BLOCKS};
+use crate::table::{MOST_NODES, NONE};
 
 /// A titled maker of many files.
 pub struct Kind {
@@ -12,7 +13,7 @@ pub struct Kind {
 }
 
 /// The kinds of files of every comparison of listings.
-pub const KINDS: [Kind; 9] = [
+pub const KINDS: [Kind; 11] = [
     Kind {
         title: "sound sheets of many shapes",
         make: sound_sheets,
@@ -22,8 +23,16 @@ pub const KINDS: [Kind; 9] = [
         make: bounds_of_separation,
     },
     Kind {
+        title: "half-widths at their bounds and above",
+        make: bounds_of_half_widths,
+    },
+    Kind {
         title: "damaged trees in sound files",
         make: refused_trees,
+    },
+    Kind {
+        title: "files of the old layout",
+        make: old_files,
     },
     Kind {
         title: "one to three bits flipped",
@@ -52,7 +61,15 @@ pub const KINDS: [Kind; 9] = [
 ];
 
 /// The longest of the random inputs.
-const MOST_RANDOM_BYTES: usize = 12_000;
+const MOST_RANDOM_BYTES: usize = 14_000;
+
+/// The counts of nodes beside each full block of rows, and the least and the greatest.
+pub fn edges_of_blocks() -> impl Iterator<Item = usize> {
+    (1..MOST_BLOCKS - 1)
+        .map(|blocks| BLOCK_ROWS * blocks)
+        .flat_map(|full| [full - 1, full, full + 1])
+        .chain([1, MOST_NODES - 1, MOST_NODES])
+}
 
 /// A tape number: any, a small one, or one beside a power of ten.
 pub fn random_tape(random: &mut Random) -> u32 {
@@ -64,27 +81,63 @@ pub fn random_tape(random: &mut Random) -> u32 {
     }
 }
 
-/// A sheet of this table, its separation often a small one.
+/// A sheet of this table, its separation often a small one, its half-widths of any kind.
 pub fn random_sheet(table: Vec<u16>, random: &mut Random) -> Sheet {
     let greatest = [3, 12, 1_024][random.below(3)];
     Sheet {
         tapes: words_of((0..table.len() / 2).map(|_| random_tape(random))),
+        half_widths: half_widths::of_any_kind(table.len() / 2, random),
         separation: random.between(1, greatest) as u16,
         table,
     }
 }
 
-/// A sheet of so many nodes with random words in its rows: the reader does not judge the tree.
+/// A sheet of so many nodes with random words in its rows: the reader judges neither the tree nor
+/// the half-widths.
 pub fn sheet_of_words(nodes: usize, random: &mut Random) -> Sheet {
     Sheet {
         separation: random.between(1, 1_024) as u16,
         table: (0..2 * nodes).map(|_| random.word()).collect(),
         tapes: (0..2 * nodes).map(|_| random.word()).collect(),
+        half_widths: (0..nodes).map(|_| random.word()).collect(),
     }
 }
 
 pub fn random_file(table: Vec<u16>, random: &mut Random) -> Vec<u8> {
     sheet::write(&random_sheet(table, random))
+}
+
+/// The rows of a block in the old layout, which had no half-widths: a row had four words, and word
+/// 1 of block 0 was 0.
+const OLD_BLOCK_ROWS: usize = 63;
+
+/// The blocks of a sheet in the old layout.
+fn old_blocks(sheet: &Sheet) -> Vec<Vec<u16>> {
+    let rows = sheet.table.chunks(2).zip(sheet.tapes.chunks(2));
+    let rows: Vec<Vec<u16>> = rows.map(|(links, tape)| [links, tape].concat()).collect();
+    let mut blocks = vec![vec![0, 0, sheet.nodes() as u16, sheet.separation]];
+    for (count, rows) in rows.chunks(OLD_BLOCK_ROWS).enumerate() {
+        let head = [count as u16 + 1, rows.len() as u16];
+        blocks.push([&head[..], &rows.concat()].concat());
+    }
+    for block in &mut blocks {
+        block.resize(BLOCK_WORDS, 0);
+        sheet::close(block);
+    }
+    blocks
+}
+
+/// A sheet in the old layout, sound: refused 12.
+pub fn old_file(sheet: &Sheet) -> Vec<u8> {
+    sheet::bytes_of(&old_blocks(sheet))
+}
+
+/// The same with the word by which layouts are told apart as it is today.
+pub fn old_file_renamed(sheet: &Sheet) -> Vec<u8> {
+    let mut blocks = old_blocks(sheet);
+    blocks[0][1] = 1;
+    sheet::close(&mut blocks[0]);
+    sheet::bytes_of(&blocks)
 }
 
 /// A count of nodes, most often a small one.
@@ -133,14 +186,53 @@ fn bounds_of_separation(random: &mut Random) -> Vec<Vec<u8>> {
     files
 }
 
+/// One half-width of a node at the bound or above it, and several; trees that are refused now and
+/// then.
+fn bounds_of_half_widths(random: &mut Random) -> Vec<Vec<u8>> {
+    let mut sheets = Vec::new();
+    for nodes in [1, 2, 49, 50, 51, 100, 101, 1_000, 1_001, 1_024] {
+        for node in [0, random.below(nodes), nodes - 1] {
+            for width in [255, 256, 257, 512, 32_768, 65_535] {
+                let mut sheet = random_sheet(random_table(nodes, random), random);
+                sheet.half_widths[node] = width;
+                sheets.push(sheet);
+            }
+        }
+    }
+    for _ in 0..600 {
+        let nodes = random_size(random);
+        let mut sheet = random_sheet(random_table(nodes, random), random);
+        sheet.half_widths = half_widths::damaged(&sheet.half_widths, random);
+        if random.once_in(3) {
+            sheet.table = shapes::damaged(&sheet.table, 1, random);
+        }
+        sheets.push(sheet);
+    }
+    sheets.iter().map(sheet::write).collect()
+}
+
+/// Files of the old layout, as they are and with today's word 1.
+fn old_files(random: &mut Random) -> Vec<Vec<u8>> {
+    let mut files = Vec::new();
+    let mut sizes = vec![
+        1, 2, 3, 49, 50, 51, 62, 63, 64, 100, 126, 127, 1_008, 1_009, 1_024,
+    ];
+    sizes.extend((0..150).map(|_| random_size(random)));
+    for nodes in sizes {
+        let sheet = random_sheet(random_table(nodes, random), random);
+        files.extend([old_file(&sheet), old_file_renamed(&sheet)]);
+    }
+    files
+}
+
 /// One way or more to come to each of the numbers 2 to 5 and 14, and tables damaged at random.
 fn refused_trees(random: &mut Random) -> Vec<Vec<u8>> {
     let mut tables = Vec::new();
-    for nodes in [2, 3, 62, 63, 64, 126, 127, 1_023, 1_024] {
+    for nodes in [2, 3, 49, 50, 51, 100, 101, 1_023, 1_024] {
         let numbered = shapes::strays_and_rings(nodes, random);
         tables.extend(numbered.into_iter().map(|(_, table)| table));
     }
-    for nodes in [1, 2, 3, 62, 63, 64, 126, 127, 1_023, 1_024] {
+    for nodes in [1, 2, 3, 49, 50, 51, 100, 101, 1_023, 1_024] {
         let last = nodes as u16 - 1;
         for value in [0, last, last + 1, NONE - 1, NONE] {
             for entry in [0, 1, 2 * nodes - 2, 2 * nodes - 1] {
@@ -208,9 +300,9 @@ fn changed_words(random: &mut Random) -> Vec<Vec<u8>> {
 /// n and D at their bounds in files of several lengths.
 fn bounds_of_header(random: &mut Random) -> Vec<Vec<u8>> {
     let mut files = Vec::new();
-    for nodes in [1, 63, 64, 1_024] {
+    for nodes in [1, 50, 51, 1_024] {
         let blocks = random_blocks(nodes, random);
-        for n in [0, 1, 62, 63, 64, 65, 1_023, 1_024, 1_025, 32_769, 65_535] {
+        for n in [0, 1, 49, 50, 51, 52, 1_023, 1_024, 1_025, 32_769, 65_535] {
             for separation in [0, 1, 1_024, 1_025, 65_535] {
                 let mut changed = blocks.clone();
                 changed[0][2] = n;
@@ -261,7 +353,7 @@ fn lengths(random: &mut Random) -> Vec<Vec<u8>> {
     lengths.extend((0..200).map(|_| random.below(MOST_RANDOM_BYTES)));
     let mut files = Vec::new();
     for len in lengths {
-        for nodes in [63, 1_024] {
+        for nodes in [50, 1_024] {
             let table = random_table(nodes, random);
             let mut file = random_file(table, random);
             file.resize(len, 0);
@@ -278,7 +370,7 @@ pub fn change_words(blocks: &mut [Vec<u16>], random: &mut Random) {
         let index = match random.below(3) {
             0 => random.below(4),
             1 => random.below(BLOCK_WORDS),
-            _ => random.between(2, 253),
+            _ => random.between(2, 251),
         };
         blocks[place][index] = match random.below(4) {
             0 => 0,

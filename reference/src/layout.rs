@@ -3,10 +3,20 @@
 //! A drawing is a list of levels, each a list of nodes with their places in tree order. So the
 //! left contour is the first of each level and the right contour the last.
 
+use crate::half_widths;
 use crate::table::{children_of, over_start, parents_first, refusal, Children};
 
 /// The drawing of a subtree; its root alone is on the first level.
 type Drawing = Vec<Vec<(usize, i64)>>;
+
+/// The distance that two neighbours need, by their numbers.
+type Needed<'a> = &'a dyn Fn(usize, usize) -> i64;
+
+/// D plus both half-widths.
+fn needed(separation: u16, half_widths: &[u16]) -> impl Fn(usize, usize) -> i64 + '_ {
+    let width = |node: usize| i64::from(half_widths[node]);
+    move |left, right| i64::from(separation) + width(left) + width(right)
+}
 
 /// A conflict of step 4, by the paper's names: child j, the new one, comes too close to child i.
 #[derive(Clone, Copy, Debug, PartialEq, Eq)]
@@ -52,7 +62,7 @@ struct Drawn {
 }
 
 /// Steps 1 to 6 for the tree with these children.
-fn draw(children: &Children, separation: i64) -> Drawn {
+fn draw(children: &Children, needed: Needed) -> Drawn {
     let mut walked = Walked::default();
     let mut drawings: Vec<Option<Drawing>> = vec![None; children.len()];
     // Step 1: each subtree on its own, so children before their parents.
@@ -61,7 +71,7 @@ fn draw(children: &Children, separation: i64) -> Drawn {
             .iter()
             .map(|&child| drawings[child].take().expect("drawn before its parent"))
             .collect();
-        drawings[node] = Some(draw_family(node, subtrees, separation, &mut walked));
+        drawings[node] = Some(draw_family(node, subtrees, needed, &mut walked));
     }
     Drawn {
         levels: drawings[0].take().expect("the root is drawn last"),
@@ -74,7 +84,7 @@ fn draw(children: &Children, separation: i64) -> Drawn {
 fn draw_family(
     node: usize,
     subtrees: Vec<Drawing>,
-    separation: i64,
+    needed: Needed,
     walked: &mut Walked,
 ) -> Drawing {
     if subtrees.is_empty() {
@@ -82,7 +92,7 @@ fn draw_family(
     }
     let mut joined: Vec<Drawing> = Vec::new();
     for subtree in subtrees {
-        join(node, &mut joined, subtree, separation, walked);
+        join(node, &mut joined, subtree, needed, walked);
     }
     // Step 5.
     let (first, last) = (
@@ -105,12 +115,14 @@ fn join(
     parent: usize,
     joined: &mut Vec<Drawing>,
     mut subtree: Drawing,
-    separation: i64,
+    needed: Needed,
     walked: &mut Walked,
 ) {
     let j = joined.len();
     if j > 0 {
-        move_right(&mut subtree, root_place(&joined[j - 1]) + separation);
+        let elder = &joined[j - 1];
+        let distance = needed(root(elder), root(&subtree));
+        move_right(&mut subtree, root_place(elder) + distance);
     }
     for level in 0.. {
         // The right contour's node belongs to the last child that has the level.
@@ -124,7 +136,7 @@ fn join(
         let (left, left_place) = joined[i][level][joined[i][level].len() - 1];
         let (right, right_place) = subtree[level][0];
         walked.measured.push((left, right));
-        let s = separation - (right_place - left_place);
+        let s = needed(left, right) - (right_place - left_place);
         if s > 0 {
             let conflict = Conflict {
                 parent,
@@ -148,6 +160,10 @@ fn move_apart(joined: &mut [Drawing], subtree: &mut Drawing, conflict: &Conflict
         let odd_units = (t - (k - r)).max(0);
         move_right(&mut joined[conflict.i + t as usize], t * q + odd_units);
     }
+}
+
+fn root(drawing: &Drawing) -> usize {
+    drawing[0][0].0
 }
 
 fn root_place(drawing: &Drawing) -> i64 {
@@ -191,16 +207,37 @@ fn in_reading_order(levels: &Drawing) -> Vec<(usize, usize)> {
         .collect()
 }
 
-/// The conflicts of a well-formed table with this separation, in the order in which they are met.
-pub fn conflicts(table: &[u16], separation: u16) -> Vec<Conflict> {
-    let drawn = draw(&children_of(table), i64::from(separation));
+/// The conflicts of a well-formed table with this separation and these half-widths, in the order in
+/// which they are met.
+pub fn conflicts(table: &[u16], separation: u16, half_widths: &[u16]) -> Vec<Conflict> {
+    let drawn = draw(&children_of(table), &needed(separation, half_widths));
     drawn.walked.conflicts
 }
 
+/// The places of a well-formed table's nodes by the steps without widths: neighbours need D.
+pub fn places_without_widths(table: &[u16], separation: u16) -> Vec<i32> {
+    let drawn = draw(&children_of(table), &|_, _| i64::from(separation));
+    let (places, _) = by_number(&drawn.levels, table.len() / 2);
+    places
+}
+
+/// The places and the levels of so many nodes.
+fn by_number(drawing: &Drawing, nodes: usize) -> (Vec<i32>, Vec<u16>) {
+    let mut places = vec![0; nodes];
+    let mut levels = vec![0; nodes];
+    for (level, row) in drawing.iter().enumerate() {
+        for &(node, place) in row {
+            places[node] = i32::try_from(place).expect("places fit 32 bits");
+            levels[node] = level as u16;
+        }
+    }
+    (places, levels)
+}
+
 /// The whole operation.
-pub fn layout(table: &[u16], separation: u16, lent: &Slices) -> LaidOut {
-    match layout_refusal(table, separation, lent) {
-        0 => accepted(table, separation, lent),
+pub fn layout(table: &[u16], separation: u16, half_widths: &[u16], lent: &Slices) -> LaidOut {
+    match layout_refusal(table, separation, half_widths, lent) {
+        0 => accepted(table, separation, half_widths, lent),
         number => LaidOut {
             number,
             nodes: 0,
@@ -216,13 +253,15 @@ pub fn layout(table: &[u16], separation: u16, lent: &Slices) -> LaidOut {
     }
 }
 
-/// The first of the conditions 1 to 5, 14 and 6 to 8 that holds, or 0.
-fn layout_refusal(table: &[u16], separation: u16, lent: &Slices) -> u16 {
+/// The first of the conditions 1 to 5, 14, 6, 17, 7 and 8 that holds, or 0.
+fn layout_refusal(table: &[u16], separation: u16, half_widths: &[u16], lent: &Slices) -> u16 {
     let nodes = table.len() / 2;
     if refusal(table) != 0 {
         refusal(table)
     } else if !(1..=1_024).contains(&separation) {
         6
+    } else if half_widths::refused(half_widths, nodes) {
+        17
     } else if lent.places.len() < nodes
         || lent.levels.len() < nodes
         || lent.record.len() < 2 * nodes
@@ -235,17 +274,10 @@ fn layout_refusal(table: &[u16], separation: u16, lent: &Slices) -> u16 {
     }
 }
 
-fn accepted(table: &[u16], separation: u16, lent: &Slices) -> LaidOut {
+fn accepted(table: &[u16], separation: u16, half_widths: &[u16], lent: &Slices) -> LaidOut {
     let nodes = table.len() / 2;
-    let drawn = draw(&children_of(table), i64::from(separation));
-    let mut places = vec![0; nodes];
-    let mut levels = vec![0; nodes];
-    for (level, row) in drawn.levels.iter().enumerate() {
-        for &(node, place) in row {
-            places[node] = i32::try_from(place).expect("places fit 32 bits");
-            levels[node] = level as u16;
-        }
-    }
+    let drawn = draw(&children_of(table), &needed(separation, half_widths));
+    let (places, levels) = by_number(&drawn.levels, nodes);
     let pairs = in_reading_order(&drawn.levels);
     let record: Vec<u16> = pairs
         .iter()
@@ -278,7 +310,7 @@ mod tests {
     use std::collections::BTreeSet;
 
     /// A layout with slices of just the lengths that are needed.
-    fn lay_out(table: &[u16], separation: u16) -> LaidOut {
+    fn lay_out_wide(table: &[u16], separation: u16, half_widths: &[u16]) -> LaidOut {
         let nodes = table.len() / 2;
         let slices = Slices {
             places: &vec![-9; nodes],
@@ -286,16 +318,31 @@ mod tests {
             record: &vec![9; 2 * nodes],
             work: &vec![9; 16 * nodes],
         };
-        layout(table, separation, &slices)
+        layout(table, separation, half_widths, &slices)
+    }
+
+    /// The same with half-widths 0.
+    fn lay_out(table: &[u16], separation: u16) -> LaidOut {
+        lay_out_wide(table, separation, &vec![0; table.len() / 2])
     }
 
     /// Holds a layout against places and levels worked out by hand. A node is given by its level
     /// and its place, in Renumber's order.
     fn expect(separation: u16, dots: &[(usize, i32)]) {
+        let dots: Vec<_> = dots
+            .iter()
+            .map(|&(level, place)| (level, 0, place))
+            .collect();
+        expect_wide(separation, &dots);
+    }
+
+    /// The same with the half-width of each node between level and place.
+    fn expect_wide(separation: u16, dots: &[(usize, u16, i32)]) {
         let list: Vec<usize> = dots.iter().map(|dot| dot.0).collect();
+        let half_widths: Vec<u16> = dots.iter().map(|dot| dot.1).collect();
         let table = shapes::table_of_levels(&list);
-        let laid = lay_out(&table, separation);
-        let places: Vec<i32> = dots.iter().map(|dot| dot.1).collect();
+        let laid = lay_out_wide(&table, separation, &half_widths);
+        let places: Vec<i32> = dots.iter().map(|dot| dot.2).collect();
         assert_eq!(laid.number, 0);
         assert_eq!(usize::from(laid.nodes), dots.len());
         assert_eq!(laid.places, places);
@@ -443,7 +490,7 @@ mod tests {
             alone,
         };
         assert_eq!(
-            conflicts(&shapes::table_of_levels(&list), 2),
+            conflicts(&shapes::table_of_levels(&list), 2, &[0; 23]),
             [
                 conflict(0, 1, 2, true),
                 conflict(1, 2, 4, false),
@@ -671,6 +718,71 @@ mod tests {
     }
 
     #[test]
+    fn half_widths_of_leaves() {
+        // D = 10: the leaves need 10 + 3 + 4, and half of 17 is rounded down. D = 1: they need 1 +
+        // 2 + 5 and 1 + 5 + 0; half of 14 is 7.
+        expect_wide(10, &[(0, 256, 0), (1, 3, -8), (1, 4, 9)]);
+        expect_wide(1, &[(0, 0, 0), (1, 2, -7), (1, 5, 1), (1, 0, 7)]);
+        // Without a neighbour a half-width counts nowhere.
+        expect_wide(5, &[(0, 256, 0), (1, 256, 0), (2, 256, 0)]);
+    }
+
+    #[test]
+    fn p6_with_half_widths() {
+        // D = 4. A's leaves need 4, 4, 4 and 4 + 5: they stand at 0, 4, 8, 12, 21 and A at 10. E's
+        // need 4 + 3, 4, 4, 4: 0, 7, 11, 15, 19 and E at 9. A, b, c, E start at 0, 0 + 4 + 2 + 1,
+        // 7 + 4 + 1 + 0 and 12 + 4 + 0 + 6, which is 22. E's first leaf then stands at 13 and A's
+        // last at 11; they need 4 + 5 + 3: s = 10, k = 3, so q = 3 and r = 1. b moves by 3, c by 6
+        // and E by 10. The four stand at 0, 10, 18, 32, the root at 16.
+        expect_wide(
+            4,
+            &[
+                (0, 200, 0),
+                (1, 2, -16),
+                (2, 0, -26),
+                (2, 0, -22),
+                (2, 0, -18),
+                (2, 0, -14),
+                (2, 5, -5),
+                (1, 1, -6),
+                (1, 0, 2),
+                (1, 6, 16),
+                (2, 3, 7),
+                (2, 0, 14),
+                (2, 0, 18),
+                (2, 0, 22),
+                (2, 0, 26),
+            ],
+        );
+    }
+
+    #[test]
+    fn wide_nodes_that_meet_below_their_ancestors() {
+        // D = 2, children A (a chain of two), b (a leaf) and C (a chain of two). They stand at 0,
+        // 2, 4. One level down A's child and C's, of half-widths 9 and 4, need 15 and stand 4
+        // apart: s = 11, k = 2, so q = 5 and r = 1. b moves by 5 and C by 11, to 7 and 15; half of
+        // 15 is 7.
+        expect_wide(
+            2,
+            &[
+                (0, 0, 0),
+                (1, 0, -7),
+                (2, 9, -7),
+                (1, 0, 0),
+                (1, 0, 8),
+                (2, 4, 8),
+            ],
+        );
+    }
+
+    #[test]
+    fn the_widest_star() {
+        // 1,023 leaves of half-width 256 with D = 1,024: each needs 1,536 from the next.
+        let laid = lay_out_wide(&shapes::star(1_024), 1_024, &[256; 1_024]);
+        assert_eq!((laid.least, laid.greatest), (-784_896, 784_896));
+    }
+
+    #[test]
     fn refusals_of_the_paper() {
         let none = crate::table::NONE;
         assert_eq!(lay_out(&[], 5).number, 1);
@@ -690,15 +802,36 @@ mod tests {
     #[test]
     fn short_slices_and_entries_past_those_named() {
         let table = shapes::star(3);
-        let with = |separation, places: usize, levels: usize, record: usize, work: usize| {
-            let slices = Slices {
-                places: &vec![-9; places],
-                levels: &vec![9; levels],
-                record: &vec![8; record],
-                work: &vec![7; work],
+        let with_widths =
+            |separation, half_widths: &[u16], [places, levels, record, work]: [_; 4]| {
+                let slices = Slices {
+                    places: &vec![-9; places],
+                    levels: &vec![9; levels],
+                    record: &vec![8; record],
+                    work: &vec![7; work],
+                };
+                layout(&table, separation, half_widths, &slices)
             };
-            layout(&table, separation, &slices)
+        let with = |separation, places: usize, levels: usize, record: usize, work: usize| {
+            with_widths(separation, &[0; 3], [places, levels, record, work])
         };
+        for refused in [
+            &[0, 0][..],
+            &[],
+            &[257, 0, 0],
+            &[0, 0, 257],
+            &[256, 65_535, 0],
+        ] {
+            assert_eq!(with_widths(0, refused, [2, 2, 5, 47]).number, 6);
+            assert_eq!(with_widths(1, refused, [2, 2, 5, 47]).number, 17);
+            assert_eq!(with_widths(1, refused, [3, 3, 6, 48]).number, 17);
+        }
+        assert_eq!(with_widths(1, &[256; 3], [3, 3, 5, 48]).number, 7);
+        assert_eq!(with_widths(1, &[256; 3], [3, 3, 6, 47]).number, 8);
+        assert_eq!(
+            with_widths(1, &[256, 256, 256, 257], [3, 3, 6, 48]).number,
+            0
+        );
         assert_eq!(with(1, 2, 3, 6, 48).number, 7);
         assert_eq!(with(1, 3, 2, 6, 48).number, 7);
         assert_eq!(with(1, 3, 3, 5, 47).number, 7);
@@ -716,20 +849,24 @@ mod tests {
         assert_eq!(laid.work[48..], [7; 2]);
     }
 
-    /// Demand 3 and what follows from the steps: the record is the neighbours in reading order, they
-    /// keep their distance, a last child touches at D, and the width is bounded.
-    fn hold_promises(table: &[u16], separation: u16) {
-        let laid = lay_out(table, separation);
+    /// Demand 3 and what follows from the steps: the record is the neighbours in reading order,
+    /// they keep the distance they need, a last child touches at that distance, and the width is
+    /// bounded.
+    fn hold_promises(table: &[u16], separation: u16, half_widths: &[u16]) {
+        let laid = lay_out_wide(table, separation, half_widths);
         let pairs = pairs_of(&laid);
         assert_eq!(pairs, neighbours(table));
         let place = |node: u16| laid.places[usize::from(node)];
-        let distance = i32::from(separation);
+        let width = |node: u16| i32::from(half_widths[usize::from(node)]);
+        let distance = |left, right| i32::from(separation) + width(left) + width(right);
         for &(left, right) in &pairs {
-            assert!(place(right) - place(left) >= distance);
+            assert!(place(right) - place(left) >= distance(left, right));
         }
         assert_eq!(laid.pairs + laid.level_count, laid.nodes);
         assert_eq!(laid.places[0], 0);
-        assert!(laid.greatest - laid.least <= (i32::from(laid.nodes) - 1) * distance);
+        let widest = half_widths.iter().max().expect("there is a root");
+        let most = i32::from(separation) + 2 * i32::from(*widest);
+        assert!(laid.greatest - laid.least <= (i32::from(laid.nodes) - 1) * most);
         let children = children_of(table);
         for family in children.iter().filter(|family| family.len() > 1) {
             let (last, elder) = family.split_last().expect("the family has children");
@@ -738,7 +875,7 @@ mod tests {
             assert!(pairs.iter().any(|&(left, right)| {
                 under_elder.contains(&left)
                     && under_last.contains(&right)
-                    && place(right) - place(left) == distance
+                    && place(right) - place(left) == distance(left, right)
             }));
         }
     }
@@ -755,19 +892,22 @@ mod tests {
 
     #[test]
     fn promises_on_every_small_tree_and_on_large_ones() {
+        let mut random = Random::new(23);
         for nodes in 1..=8 {
             for table in shapes::every_tree(nodes) {
                 for separation in [1, 2, 3, 5, 1_024] {
-                    hold_promises(&table, separation);
+                    hold_promises(&table, separation, &vec![0; nodes]);
+                    let half_widths = half_widths::of_any_kind(nodes, &mut random);
+                    hold_promises(&table, separation, &half_widths);
                 }
             }
         }
-        let mut random = Random::new(23);
         for shape in &shapes::SHAPES {
             for nodes in [30, 100, 1_024] {
                 let table = (shape.make)(nodes, &mut random);
                 let table = shapes::renumbered_at_random(&table, &mut random);
-                hold_promises(&table, random.between(1, 1_024) as u16);
+                let half_widths = half_widths::of_any_kind(nodes, &mut random);
+                hold_promises(&table, random.between(1, 1_024) as u16, &half_widths);
             }
         }
     }
@@ -780,20 +920,27 @@ mod tests {
         growths
     }
 
-    /// The distances between siblings are D and what each conflict adds to the gaps between them.
-    fn hold_gaps(table: &[u16], separation: u16) {
+    /// The distances between siblings are those they need and what each conflict adds to the gaps
+    /// between them.
+    fn hold_gaps(table: &[u16], separation: u16, half_widths: &[u16]) {
         let children = children_of(table);
+        let needed = needed(separation, half_widths);
         let mut gaps: Vec<Vec<i64>> = children
             .iter()
-            .map(|family| vec![i64::from(separation); family.len().saturating_sub(1)])
+            .map(|family| {
+                family
+                    .windows(2)
+                    .map(|pair| needed(pair[0], pair[1]))
+                    .collect()
+            })
             .collect();
-        for conflict in conflicts(table, separation) {
+        for conflict in conflicts(table, separation, half_widths) {
             let between = &mut gaps[conflict.parent][conflict.i..conflict.j];
             for (gap, growth) in between.iter_mut().zip(growths(&conflict)) {
                 *gap += growth;
             }
         }
-        let places = lay_out(table, separation).places;
+        let places = lay_out_wide(table, separation, half_widths).places;
         for (family, gaps) in children.iter().zip(gaps) {
             let distances = family
                 .windows(2)
@@ -807,33 +954,60 @@ mod tests {
 
     #[test]
     fn gaps_and_promises_where_conflicts_are_shared() {
-        for (table, separation) in (1..=8).flat_map(shapes::every_tree).zip((1..=5).cycle()) {
-            hold_gaps(&table, separation);
-        }
         let mut random = Random::new(31);
+        for (table, separation) in (1..=8).flat_map(shapes::every_tree).zip((1..=5).cycle()) {
+            hold_gaps(&table, separation, &vec![0; table.len() / 2]);
+            let half_widths = half_widths::of_any_kind(table.len() / 2, &mut random);
+            hold_gaps(&table, separation, &half_widths);
+        }
         for (_, trees) in shapes::made_for_conflicts(&mut random) {
             for (count, (table, separation)) in trees.into_iter().enumerate() {
-                hold_gaps(&table, separation);
+                let mut half_widths = vec![0; table.len() / 2];
+                if count % 2 == 0 {
+                    half_widths = half_widths::of_any_kind(half_widths.len(), &mut random);
+                }
+                hold_gaps(&table, separation, &half_widths);
                 if count % 15 == 0 {
-                    hold_promises(&table, separation);
+                    hold_promises(&table, separation, &half_widths);
                 }
             }
         }
     }
 
     #[test]
-    fn a_subtree_draws_as_it_does_alone() {
-        // The child of a root with one child stands under it, so a chain on top changes no place.
+    fn without_half_widths_the_drawing_is_that_of_d_alone() {
+        let mut random = Random::new(43);
+        for table in (1..=7).flat_map(shapes::every_tree) {
+            let separation = random.between(1, 9) as u16;
+            let places = places_without_widths(&table, separation);
+            assert_eq!(lay_out(&table, separation).places, places);
+            // Equal half-widths are as good as a greater separation.
+            let half_widths = vec![3; table.len() / 2];
+            let wide = lay_out_wide(&table, separation, &half_widths);
+            assert_eq!(wide.places, places_without_widths(&table, separation + 6));
+        }
+    }
+
+    #[test]
+    fn equal_subtrees_draw_as_they_do_alone() {
+        // The root has the tree twice, with equal half-widths at every two corresponding nodes.
         let mut random = Random::new(29);
         for nodes in 1..60 {
             let table = shapes::mixed(nodes, &mut random);
-            let mut children: Children = vec![vec![1]];
-            for family in children_of(&table) {
-                children.push(family.iter().map(|child| child + 1).collect());
+            let half_widths = half_widths::of_any_kind(nodes, &mut random);
+            let mut children: Children = vec![vec![1, 1 + nodes]];
+            for start in [1, 1 + nodes] {
+                for family in children_of(&table) {
+                    children.push(family.iter().map(|child| child + start).collect());
+                }
             }
-            let alone = lay_out(&table, 7);
-            let under = lay_out(&crate::table::table_of(&children), 7);
-            assert_eq!(alone.places, under.places[1..]);
+            let twice = [&[0], &half_widths[..], &half_widths].concat();
+            let alone = lay_out_wide(&table, 7, &half_widths);
+            let under = lay_out_wide(&crate::table::table_of(&children), 7, &twice);
+            for part in under.places[1..].chunks(nodes) {
+                let drawn: Vec<i32> = part.iter().map(|place| place - part[0]).collect();
+                assert_eq!(drawn, alone.places);
+            }
         }
     }
 }

@@ -7,6 +7,7 @@
 pub mod conflicts;
 pub mod ffi;
 pub mod files;
+pub mod half_widths;
 pub mod layout;
 pub mod lent;
 pub mod listing;

@@ -6,7 +6,7 @@ use crate::table::MOST_NODES;
 
 /// The numbers that a listing can give. The reader sees to it that a table has 2n entries and that
 /// n and D are in range, and the slices inside are long enough: 1 and 6 to 8 do not occur.
-pub const NUMBERS: [u16; 10] = [0, 2, 3, 4, 5, 9, 10, 11, 12, 14];
+pub const NUMBERS: [u16; 11] = [0, 2, 3, 4, 5, 9, 10, 11, 12, 14, 17];
 
 /// The bytes for this input.
 pub fn listing(file: &[u8]) -> Vec<u8> {
@@ -28,18 +28,20 @@ pub fn number_of(listing: &[u8]) -> u16 {
 
 /// The sheet's line and one for each node, or the number of the refusal.
 fn lines(file: &[u8]) -> Result<Vec<String>, u16> {
-    let sheet = read(file, &[0; 2 * MOST_NODES], &[0; 2 * MOST_NODES]);
+    let (pairs, singles) = ([0; 2 * MOST_NODES], [0; MOST_NODES]);
+    let sheet = read(file, &pairs, &pairs, &singles);
     if sheet.number != 0 {
         return Err(sheet.number);
     }
     let nodes = usize::from(sheet.nodes);
     let lent = Slices {
         places: &[0; MOST_NODES],
-        levels: &[0; MOST_NODES],
-        record: &[0; 2 * MOST_NODES],
+        levels: &singles,
+        record: &pairs,
         work: &[0; 16 * MOST_NODES],
     };
-    let laid = layout(&sheet.table[..2 * nodes], sheet.separation, &lent);
+    let (table, half_widths) = (&sheet.table[..2 * nodes], &sheet.half_widths[..nodes]);
+    let laid = layout(table, sheet.separation, half_widths, &lent);
     if laid.number != 0 {
         return Err(laid.number);
     }
@@ -75,12 +77,13 @@ mod tests {
         assert_eq!(String::from_utf8_lossy(&listing(file)), text);
     }
 
-    /// A sheet with D = 1 and tapes 0.
+    /// A sheet with D = 1, tapes and half-widths 0.
     fn plain(table: &[u16]) -> Sheet {
         Sheet {
             separation: 1,
             table: table.to_vec(),
             tapes: vec![0; table.len()],
+            half_widths: vec![0; table.len() / 2],
         }
     }
 
@@ -122,6 +125,38 @@ mod tests {
         let star = listing(&write(&star));
         assert!(star.starts_with(b"sheet 1024 2 1024 -523264 523264\n0 0 0 0\n1 1 -523264 0\n"));
         assert!(star.ends_with(b"\n1023 1 523264 0\n"));
+        let mut wide = plain(&shapes::star(1_024));
+        wide.separation = 1_024;
+        wide.half_widths = vec![256; 1_024];
+        let wide = listing(&write(&wide));
+        assert!(wide.starts_with(b"sheet 1024 2 1024 -784896 784896\n0 0 0 0\n1 1 -784896 0\n"));
+    }
+
+    #[test]
+    fn half_widths_move_places_and_are_not_printed() {
+        let mut sheet = example();
+        sheet.half_widths = vec![256, 0, 4];
+        expect(
+            &write(&sheet),
+            "sheet 3 2 3 -3 4\n0 0 0 500\n1 1 -3 501\n2 1 4 502\n",
+        );
+    }
+
+    #[test]
+    fn half_widths_are_judged_after_the_tree() {
+        let mut sheet = example();
+        for (node, width) in [(0, 257), (1, 65_535), (2, 257)] {
+            sheet.half_widths = vec![256; 3];
+            sheet.half_widths[node] = width;
+            expect(&write(&sheet), "refused 17\n");
+        }
+        for (table, text) in [
+            ([1, NONE, NONE, NONE, NONE, NONE], "refused 5\n"),
+            ([NONE, NONE, 2, NONE, 1, NONE], "refused 14\n"),
+        ] {
+            sheet.table = table.to_vec();
+            expect(&write(&sheet), text);
+        }
     }
 
     #[test]
@@ -129,7 +164,7 @@ mod tests {
         let file = write(&example());
         expect(&[], "refused 9\n");
         expect(&file[..1_023], "refused 9\n");
-        expect(&[0; 9_217], "refused 9\n");
+        expect(&[0; 11_265], "refused 9\n");
         let mut flipped = file.clone();
         flipped[700] ^= 16;
         expect(&flipped, "refused 10\n");

@@ -31,6 +31,7 @@ struct Sheet {
     separation: u16,
     table: Vec<u16>,
     tapes: Vec<u32>,
+    half_widths: Vec<u16>,
 }
 
 impl Sheet {
@@ -40,6 +41,7 @@ impl Sheet {
         self.separation = word(header, 3);
         self.table.clear();
         self.tapes.clear();
+        self.half_widths.clear();
         let (_, first) = row_start(0);
         let rows = rows.chunks_exact(BLOCK_BYTES).flat_map(|block| {
             block[2 * first..2 * (first + ROW_WORDS * BLOCK_ROWS)].chunks_exact(2 * ROW_WORDS)
@@ -48,6 +50,7 @@ impl Sheet {
             self.table.extend([word(row, 0), word(row, 1)]);
             let tape = u32::from(word(row, 2)) | u32::from(word(row, 3)) << 16;
             self.tapes.push(tape);
+            self.half_widths.push(word(row, 4));
         }
     }
 }
@@ -75,6 +78,7 @@ impl Plain {
         self.pointers.lay_out::<false>(
             &self.sheet.table,
             self.sheet.separation,
+            &self.sheet.half_widths,
             &mut self.places,
             &mut self.levels,
             &mut [],

@@ -14,6 +14,7 @@ struct Node {
     modifier: i32,
     shift: i32,
     change: i32,
+    half_width: i32,
     parent: u16,
     first_child: u16,
     last_child: u16,
@@ -32,6 +33,7 @@ const FRESH: Node = Node {
     modifier: 0,
     shift: 0,
     change: 0,
+    half_width: 0,
     parent: NONE,
     first_child: NONE,
     last_child: NONE,
@@ -83,6 +85,7 @@ impl Pointers {
         &mut self,
         table: &[u16],
         separation: u16,
+        half_widths: &[u16],
         places: &mut [i32],
         levels: &mut [u16],
         record: &mut [u16],
@@ -90,7 +93,7 @@ impl Pointers {
         let count = table.len() / 2;
         let nodes = &mut self.nodes[..count];
         let families = &mut self.families[..count];
-        link(nodes, families, table);
+        link(nodes, families, table, half_widths);
         let mut walk: Walk<RECORD> = Walk {
             nodes,
             families,
@@ -104,9 +107,11 @@ impl Pointers {
 }
 
 /// Fresh nodes with the links that the table gives, and the list of families.
-fn link(nodes: &mut [Node], families: &mut [u16], table: &[u16]) {
-    for (node, (links, entries)) in nodes.iter_mut().zip(table.chunks_exact(2)).enumerate() {
+fn link(nodes: &mut [Node], families: &mut [u16], table: &[u16], half_widths: &[u16]) {
+    let rows = table.chunks_exact(2).zip(half_widths);
+    for (node, (links, (entries, half_width))) in nodes.iter_mut().zip(rows).enumerate() {
         *links = Node {
+            half_width: i32::from(*half_width),
             first_child: entries[0],
             next_sibling: entries[1],
             ancestor: node as u16,
@@ -163,6 +168,12 @@ impl<const RECORD: bool> Walk<'_, RECORD> {
         }
     }
 
+    /// The distance that two neighbours need.
+    #[inline(always)]
+    fn needed(&self, left: u16, right: u16) -> i32 {
+        self.separation + self.at(left).half_width + self.at(right).half_width
+    }
+
     #[inline(always)]
     fn measure(&mut self, left: u16, right: u16) {
         if RECORD {
@@ -182,7 +193,7 @@ impl<const RECORD: bool> Walk<'_, RECORD> {
             // A leaf stands at 0 or beside its elder sibling.
             let elder = self.at(node).left_sibling;
             if elder != NONE {
-                self.at_mut(node).prelim = self.at(elder).prelim + self.separation;
+                self.at_mut(node).prelim = self.at(elder).prelim + self.needed(elder, node);
             }
             // Up from each last child to its parent, which is then complete.
             loop {
@@ -218,7 +229,7 @@ impl<const RECORD: bool> Walk<'_, RECORD> {
         if left_sibling == NONE {
             self.at_mut(parent).prelim = middle;
         } else {
-            let place = self.at(left_sibling).prelim + self.separation;
+            let place = self.at(left_sibling).prelim + self.needed(left_sibling, parent);
             let node = self.at_mut(parent);
             node.prelim = place;
             node.modifier = place - middle;
@@ -252,7 +263,7 @@ impl<const RECORD: bool> Walk<'_, RECORD> {
             self.measure(inside_left, inside_right);
             let shift = (self.at(inside_left).prelim + inside_left_sum)
                 - (self.at(inside_right).prelim + inside_right_sum)
-                + self.separation;
+                + self.needed(inside_left, inside_right);
             if shift > 0 {
                 let ancestor = self.ancestor(inside_left, parent);
                 self.move_subtree(ancestor, subtree, shift);
@@ -368,12 +379,18 @@ impl<const RECORD: bool> Walk<'_, RECORD> {
 mod tests {
     use super::*;
     use crate::conflicts::Tally;
+    use crate::half_widths::{self, of_any_kind};
     use crate::layout::{layout, Slices};
     use crate::random::Random;
     use crate::shapes;
 
-    /// Holds the baseline against the literal layout in every figure.
+    /// Holds the baseline against the literal layout in every figure, with half-widths 0.
     fn compare(pointers: &mut Pointers, table: &[u16], separation: u16) {
+        compare_wide(pointers, table, separation, &vec![0; table.len() / 2]);
+    }
+
+    /// The same with any half-widths.
+    fn compare_wide(pointers: &mut Pointers, table: &[u16], separation: u16, half_widths: &[u16]) {
         let nodes = table.len() / 2;
         let mut places = vec![7; nodes];
         let mut levels = vec![7; nodes];
@@ -381,6 +398,7 @@ mod tests {
         let literal = layout(
             table,
             separation,
+            half_widths,
             &Slices {
                 places: &places,
                 levels: &levels,
@@ -388,8 +406,14 @@ mod tests {
                 work: &vec![0; 16 * nodes],
             },
         );
-        let extent =
-            pointers.lay_out::<true>(table, separation, &mut places, &mut levels, &mut record);
+        let extent = pointers.lay_out::<true>(
+            table,
+            separation,
+            half_widths,
+            &mut places,
+            &mut levels,
+            &mut record,
+        );
         assert_eq!(literal.number, 0);
         assert_eq!(places, literal.places, "D = {separation}, {table:?}");
         assert_eq!(levels, literal.levels);
@@ -414,17 +438,27 @@ mod tests {
             }
         );
         let mut plain_places = vec![0; nodes];
-        pointers.lay_out::<false>(table, separation, &mut plain_places, &mut levels, &mut []);
+        pointers.lay_out::<false>(
+            table,
+            separation,
+            half_widths,
+            &mut plain_places,
+            &mut levels,
+            &mut [],
+        );
         assert_eq!(plain_places, places);
     }
 
     #[test]
     fn agrees_on_every_small_tree() {
+        let mut random = Random::new(19);
         let mut pointers = Pointers::new(8);
         for nodes in 1..=8 {
             for table in shapes::every_tree(nodes) {
                 for separation in [1, 2, 3, 5, 1_024] {
                     compare(&mut pointers, &table, separation);
+                    let half_widths = half_widths::some_of(&[0, 1, 256], nodes, &mut random);
+                    compare_wide(&mut pointers, &table, separation, &half_widths);
                 }
             }
         }
@@ -455,7 +489,8 @@ mod tests {
                     1 => random.between(1, 1_024),
                     _ => [1, 2, 3, 5, 1_023, 1_024][random.below(6)],
                 };
-                compare(&mut pointers, &table, separation as u16);
+                let half_widths = of_any_kind(nodes, &mut random);
+                compare_wide(&mut pointers, &table, separation as u16, &half_widths);
             }
         }
     }
@@ -480,8 +515,11 @@ mod tests {
         let mut tally = Tally::default();
         for (_, trees) in shapes::made_for_conflicts(&mut random) {
             for (table, separation) in trees {
-                compare(&mut pointers, &table, separation);
-                tally.add(&table, separation);
+                let none = vec![0; table.len() / 2];
+                compare_wide(&mut pointers, &table, separation, &none);
+                tally.add(&table, separation, &none);
+                let half_widths = of_any_kind(none.len(), &mut random);
+                compare_wide(&mut pointers, &table, separation, &half_widths);
             }
         }
         tally.expect_every_kind();

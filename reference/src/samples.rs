@@ -1,6 +1,8 @@
 //! The sheets of the folder `samples/`, good and damaged, and a Newick text, each made anew in the
 //! same way.
 
+use crate::files::old_file;
+use crate::half_widths::MOST_HALF_WIDTH;
 use crate::listing::listing;
 use crate::newick::{text_of, Tree};
 use crate::random::Random;
@@ -48,19 +50,22 @@ pub fn samples() -> Vec<Sample> {
         ("example", sheet::example()),
         ("p6", p6()),
         ("p7", p7()),
+        ("shelf-marks", shelf_marks()),
         ("family", family()),
         ("chain-1024", chain()),
         ("star-1024", star()),
-        ("nodes-63", binary(63)),
-        ("nodes-64", binary(64)),
+        ("nodes-50", binary(50)),
+        ("nodes-51", binary(51)),
     ];
     let damaged = [
         ("damaged-length", a_byte_short()),
         ("damaged-bit", a_bit_flipped()),
         ("damaged-order", blocks_exchanged()),
         ("damaged-header", a_node_too_many()),
+        ("old-p6", old_file(&p6())),
         ("damaged-stray", an_unnamed_tape()),
         ("damaged-ring", copies_of_each_other()),
+        ("damaged-width", a_shelf_mark_too_long()),
     ];
     good.into_iter()
         .map(|(name, sheet)| (name, sheet::write(&sheet)))
@@ -69,10 +74,11 @@ pub fn samples() -> Vec<Sample> {
         .collect()
 }
 
-/// A sheet with the tape number of each node.
+/// A sheet with the tape number of each node, half-widths 0.
 fn sheet_of(separation: u16, table: Vec<u16>, tapes: impl IntoIterator<Item = u32>) -> Sheet {
     Sheet {
         separation,
+        half_widths: vec![0; table.len() / 2],
         table,
         tapes: words_of(tapes),
     }
@@ -98,14 +104,26 @@ fn p7() -> Sheet {
     consecutive(2, shapes::table_of_levels(&levels), 700)
 }
 
+/// P6 with shelf marks of all lengths: those of a few copies and of the single tape are long.
+fn shelf_marks() -> Sheet {
+    Sheet {
+        half_widths: vec![12, 2, 0, 0, 0, 0, 5, 1, 0, 6, 3, 0, 0, 0, 0],
+        ..p6()
+    }
+}
+
 /// Each tape a copy of the one before.
 fn chain() -> Sheet {
     consecutive(5, shapes::chain(1_024), 10_000)
 }
 
-/// All tapes copies of the first, as far apart as they can be; the last has the greatest number.
+/// All tapes copies of the first, as wide and as far apart as they can be; the last has the
+/// greatest number.
 fn star() -> Sheet {
-    consecutive(1_024, shapes::star(1_024), u32::MAX - 1_023)
+    Sheet {
+        half_widths: vec![MOST_HALF_WIDTH; 1_024],
+        ..consecutive(1_024, shapes::star(1_024), u32::MAX - 1_023)
+    }
 }
 
 /// Two copies of each tape but those on the last levels.
@@ -197,9 +215,9 @@ fn a_bit_flipped() -> Vec<u8> {
     sheet::bytes_of(&blocks)
 }
 
-/// The sheet of 64 nodes with its two blocks of rows exchanged: refused 11.
+/// The sheet of 51 nodes with its two blocks of rows exchanged: refused 11.
 fn blocks_exchanged() -> Vec<u8> {
-    let mut blocks = sheet::blocks_of(&sheet::write(&binary(64)));
+    let mut blocks = sheet::blocks_of(&sheet::write(&binary(51)));
     blocks.swap(1, 2);
     sheet::bytes_of(&blocks)
 }
@@ -226,27 +244,37 @@ fn copies_of_each_other() -> Vec<u8> {
     sheet::write(&sheet)
 }
 
+/// The shelf marks with one that is one unit too long on either side, sound: refused 17.
+fn a_shelf_mark_too_long() -> Vec<u8> {
+    let mut sheet = shelf_marks();
+    sheet.half_widths[6] = MOST_HALF_WIDTH + 1;
+    sheet::write(&sheet)
+}
+
 #[cfg(test)]
 mod tests {
     use super::*;
     use crate::table::{children_of, level_by_level, refusal};
 
     /// The first line of each sample's listing.
-    const FIRST_LINES: [(&str, &str); 14] = [
+    const FIRST_LINES: [(&str, &str); 17] = [
         ("example", "sheet 3 2 3 -1 2"),
         ("p6", "sheet 15 3 4 -18 18"),
         ("p7", "sheet 23 4 2 -12 10"),
+        ("shelf-marks", "sheet 15 3 4 -26 26"),
         ("family", "sheet 574 4 8 -1816 1820"),
         ("chain-1024", "sheet 1024 1024 5 0 0"),
-        ("star-1024", "sheet 1024 2 1024 -523264 523264"),
-        ("nodes-63", "sheet 63 6 7 -108 109"),
-        ("nodes-64", "sheet 64 7 7 -108 109"),
+        ("star-1024", "sheet 1024 2 1024 -784896 784896"),
+        ("nodes-50", "sheet 50 6 7 -97 71"),
+        ("nodes-51", "sheet 51 6 7 -98 73"),
         ("damaged-length", "refused 9"),
         ("damaged-bit", "refused 10"),
         ("damaged-order", "refused 11"),
         ("damaged-header", "refused 12"),
+        ("old-p6", "refused 12"),
         ("damaged-stray", "refused 5"),
         ("damaged-ring", "refused 14"),
+        ("damaged-width", "refused 17"),
     ];
 
     #[test]

@@ -684,7 +684,7 @@ pub fn damaged(table: &[u16], count: usize, random: &mut Random) -> Vec<u16> {
 /// and above 300.
 fn sizes(small: usize, middling: usize, large: usize, random: &mut Random) -> Vec<usize> {
     let mut sizes: Vec<usize> = (1..=small).collect();
-    sizes.extend([62, 63, 64, 65, 126, 127, 1_008, 1_009, 1_023, 1_024]);
+    sizes.extend([49, 50, 51, 99, 100, 101, 1_000, 1_001, 1_023, 1_024]);
     sizes.extend((0..middling).map(|_| random.between(small + 1, 300)));
     sizes.extend((0..large).map(|_| random.between(301, 1_024)));
     sizes

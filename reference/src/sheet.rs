@@ -1,14 +1,18 @@
 //! The model of the sheet file: its layout, the reader and the writer.
 
+use crate::half_widths;
 use crate::table::{over_start, refusal};
 
 pub const BLOCK_BYTES: usize = 512;
 pub const BLOCK_WORDS: usize = 256;
-pub const MOST_BLOCKS: usize = 18;
+pub const MOST_BLOCKS: usize = 22;
 
 /// Rows to a block and words to a row.
-pub const BLOCK_ROWS: usize = 63;
-pub const ROW_WORDS: usize = 4;
+pub const BLOCK_ROWS: usize = 50;
+pub const ROW_WORDS: usize = 5;
+
+/// Block 0's word 1.
+const LAYOUT_NUMBER: u16 = 1;
 
 /// The word with which a block's sum comes to zero.
 pub const CLOSING_WORD: usize = 255;
@@ -24,34 +28,45 @@ pub struct Read {
     pub separation: u16,
     pub table: Vec<u16>,
     pub tapes: Vec<u16>,
+    pub half_widths: Vec<u16>,
 }
 
-/// `table` and `tapes` are the slices as they are lent.
-pub fn read(file: &[u8], table: &[u16], tapes: &[u16]) -> Read {
-    match contents(file, table.len(), tapes.len()) {
+/// `table`, `tapes` and `half_widths` are the slices as they are lent.
+pub fn read(file: &[u8], table: &[u16], tapes: &[u16], half_widths: &[u16]) -> Read {
+    match contents(file, table.len(), tapes.len(), half_widths.len()) {
         Err(number) => Read {
             number,
             nodes: 0,
             separation: 0,
             table: table.to_vec(),
             tapes: tapes.to_vec(),
+            half_widths: half_widths.to_vec(),
         },
         Ok(sheet) => Read {
             number: 0,
-            nodes: (sheet.table.len() / 2) as u16,
+            nodes: sheet.nodes() as u16,
             separation: sheet.separation,
             table: over_start(table, &sheet.table),
             tapes: over_start(tapes, &sheet.tapes),
+            half_widths: over_start(half_widths, &sheet.half_widths),
         },
     }
 }
 
-/// What a sheet file says: for each node two words of the table and its tape's low and high word.
+/// What a sheet file says: for each node two words of the table, its tape's low and high word, and
+/// its half-width.
 #[derive(Clone, Debug, PartialEq, Eq)]
 pub struct Sheet {
     pub separation: u16,
     pub table: Vec<u16>,
     pub tapes: Vec<u16>,
+    pub half_widths: Vec<u16>,
+}
+
+impl Sheet {
+    pub fn nodes(&self) -> usize {
+        self.table.len() / 2
+    }
 }
 
 /// The low and the high word of each tape number.
@@ -63,8 +78,13 @@ pub fn words_of(tapes: impl IntoIterator<Item = u32>) -> Vec<u16> {
 }
 
 /// The conditions in the reader's order, then the rows.
-fn contents(file: &[u8], table_len: usize, tapes_len: usize) -> Result<Sheet, u16> {
-    if !file.len().is_multiple_of(BLOCK_BYTES) || !(1_024..=9_216).contains(&file.len()) {
+fn contents(
+    file: &[u8],
+    table_len: usize,
+    tapes_len: usize,
+    half_widths_len: usize,
+) -> Result<Sheet, u16> {
+    if !file.len().is_multiple_of(BLOCK_BYTES) || !(1_024..=11_264).contains(&file.len()) {
         return Err(9);
     }
     let blocks = blocks_of(file);
@@ -89,18 +109,20 @@ fn contents(file: &[u8], table_len: usize, tapes_len: usize) -> Result<Sheet, u1
             }
         }
     }
-    if table_len < 2 * nodes || tapes_len < 2 * nodes {
+    if table_len < 2 * nodes || tapes_len < 2 * nodes || half_widths_len < nodes {
         return Err(7);
     }
     let mut sheet = Sheet {
         separation,
         table: Vec::new(),
         tapes: Vec::new(),
+        half_widths: Vec::new(),
     };
     for node in 0..nodes {
         let (place, index) = row_start(node);
         sheet.table.extend(&blocks[place][index..index + 2]);
         sheet.tapes.extend(&blocks[place][index + 2..index + 4]);
+        sheet.half_widths.push(blocks[place][index + 4]);
     }
     Ok(sheet)
 }
@@ -162,6 +184,7 @@ pub fn fixed_word(nodes: usize, place: usize, index: usize) -> Option<u16> {
     match (place, index) {
         (_, 0) => Some(place as u16),
         (_, CLOSING_WORD) => None,
+        (0, 1) => Some(LAYOUT_NUMBER),
         (0, 2 | 3) => None,
         (0, _) => Some(0),
         (_, 1) => Some(row_count(nodes, place) as u16),
@@ -178,15 +201,12 @@ pub struct Written {
     pub out: Vec<u8>,
 }
 
-/// `out` is the output slice as it is lent.
-pub fn write_sheet(table: &[u16], separation: u16, tapes: &[u16], out: &[u8]) -> Written {
-    match write_refusal(table, separation, tapes.len(), out.len()) {
+/// The sheet's tapes and half-widths may be fewer or more than its nodes need. `out` is the output
+/// slice as it is lent.
+pub fn write_sheet(sheet: &Sheet, out: &[u8]) -> Written {
+    match write_refusal(sheet, out.len()) {
         0 => {
-            let file = write(&Sheet {
-                separation,
-                table: table.to_vec(),
-                tapes: tapes[..table.len()].to_vec(),
-            });
+            let file = write(sheet);
             Written {
                 number: 0,
                 bytes: file.len() as u16,
@@ -202,15 +222,17 @@ pub fn write_sheet(table: &[u16], separation: u16, tapes: &[u16], out: &[u8]) ->
 }
 
 /// The first of the writer's conditions that holds, in their order, or 0.
-fn write_refusal(table: &[u16], separation: u16, tapes_len: usize, out_len: usize) -> u16 {
-    let number = refusal(table);
+fn write_refusal(sheet: &Sheet, out_len: usize) -> u16 {
+    let number = refusal(&sheet.table);
     if number != 0 {
         number
-    } else if !(1..=MOST_SEPARATION).contains(&separation) {
+    } else if !(1..=MOST_SEPARATION).contains(&sheet.separation) {
         6
-    } else if tapes_len < table.len() {
+    } else if sheet.tapes.len() < sheet.table.len() {
         13
-    } else if out_len < file_len(table.len() / 2) {
+    } else if half_widths::refused(&sheet.half_widths, sheet.nodes()) {
+        17
+    } else if out_len < file_len(sheet.nodes()) {
         7
     } else {
         0
@@ -219,7 +241,7 @@ fn write_refusal(table: &[u16], separation: u16, tapes_len: usize, out_len: usiz
 
 /// The file of a sheet, sound and laid out as the reader wants it.
 pub fn write(sheet: &Sheet) -> Vec<u8> {
-    let nodes = sheet.table.len() / 2;
+    let nodes = sheet.nodes();
     let mut blocks: Vec<Vec<u16>> = (0..block_count(nodes))
         .map(|place| {
             (0..BLOCK_WORDS)
@@ -233,7 +255,8 @@ pub fn write(sheet: &Sheet) -> Vec<u8> {
         let (place, index) = row_start(node);
         let row = &mut blocks[place][index..index + ROW_WORDS];
         row[..2].copy_from_slice(&sheet.table[2 * node..2 * node + 2]);
-        row[2..].copy_from_slice(&sheet.tapes[2 * node..2 * node + 2]);
+        row[2..4].copy_from_slice(&sheet.tapes[2 * node..2 * node + 2]);
+        row[4] = sheet.half_widths[node];
     }
     for block in &mut blocks {
         close(block);
@@ -241,20 +264,21 @@ pub fn write(sheet: &Sheet) -> Vec<u8> {
     bytes_of(&blocks)
 }
 
-/// The example of the paper: a root with tape 500 and its leaves 501 and 502, D = 3.
+/// The example of the paper: a root with tape 500 and its leaves 501 and 502, D = 3, half-widths 0.
 pub fn example() -> Sheet {
     let none = crate::table::NONE;
     Sheet {
         separation: 3,
         table: vec![1, none, none, 2, none, none],
         tapes: vec![500, 0, 501, 0, 502, 0],
+        half_widths: vec![0; 3],
     }
 }
 
 #[cfg(test)]
 mod tests {
     use super::*;
-    use crate::files::sheet_of_words;
+    use crate::files::{old_file, sheet_of_words};
     use crate::random::Random;
     use crate::shapes::chain;
     use crate::table::NONE;
@@ -265,37 +289,66 @@ mod tests {
         let file = write(&sheet);
         let blocks = blocks_of(&file);
         assert_eq!(blocks.len(), 2);
-        assert_eq!(blocks[0][..5], [0, 0, 3, 3, 0]);
-        assert_eq!(blocks[0][255], 65_530);
-        assert_eq!(
-            blocks[1][..15],
-            [1, 3, 1, NONE, 500, 0, NONE, 2, 501, 0, NONE, NONE, 502, 0, 0]
-        );
+        assert_eq!(blocks[0][..5], [0, 1, 3, 3, 0]);
+        assert_eq!(blocks[0][255], 65_529);
+        let rows = [
+            [1, NONE, 500, 0, 0],
+            [NONE, 2, 501, 0, 0],
+            [NONE, NONE, 502, 0, 0],
+        ];
+        assert_eq!(blocks[1][..2], [1, 3]);
+        assert_eq!(blocks[1][2..17], rows.concat());
         assert_eq!(blocks[1][255], 64_030);
-        let read = read(&file, &[9; 7], &[8; 6]);
+        let read = read(&file, &[9; 7], &[8; 6], &[7; 5]);
         assert_eq!((read.number, read.nodes, read.separation), (0, 3, 3));
         assert_eq!(read.table[..6], sheet.table);
         assert_eq!(read.table[6], 9);
         assert_eq!(read.tapes, sheet.tapes);
+        assert_eq!(read.half_widths, [0, 0, 0, 7, 7]);
+    }
+
+    #[test]
+    fn the_half_width_stands_last_in_its_row() {
+        let mut sheet = example();
+        sheet.half_widths = vec![7, 256, 65_535];
+        let blocks = blocks_of(&write(&sheet));
+        let (first, last) = ([1, NONE, 500, 0, 7], [NONE, NONE, 502, 0, 65_535]);
+        assert_eq!(blocks[1][2..7], first);
+        assert_eq!(blocks[1][11], 256);
+        assert_eq!(blocks[1][12..17], last);
+        assert_eq!(blocks[1][17..255], [0; 238]);
     }
 
     #[test]
     fn counts_of_blocks() {
-        for (nodes, blocks) in [(1, 2), (63, 2), (64, 3), (126, 3), (127, 4), (1_024, 18)] {
+        for (nodes, blocks) in [
+            (1, 2),
+            (50, 2),
+            (51, 3),
+            (100, 3),
+            (101, 4),
+            (1_000, 21),
+            (1_001, 22),
+            (1_024, 22),
+        ] {
             assert_eq!(block_count(nodes), blocks);
         }
-        assert_eq!(row_count(1_024, 17), 16);
-        assert_eq!(row_count(126, 2), 63);
-        assert_eq!(row_start(63), (2, 2));
-        assert_eq!(row_start(62), (1, 250));
+        assert_eq!(row_count(1_024, 21), 24);
+        assert_eq!(row_count(100, 2), 50);
+        assert_eq!(row_start(50), (2, 2));
+        assert_eq!(row_start(49), (1, 247));
+        assert_eq!(fixed_word(50, 1, 251), None);
+        for index in 252..255 {
+            assert_eq!(fixed_word(50, 1, index), Some(0));
+        }
     }
 
     #[test]
     fn what_is_written_is_read() {
         let mut random = Random::new(3);
-        for nodes in [1, 2, 62, 63, 64, 126, 127, 500, 1_008, 1_009, 1_024] {
+        for nodes in [1, 2, 49, 50, 51, 100, 101, 500, 1_000, 1_001, 1_024] {
             let sheet = sheet_of_words(nodes, &mut random);
-            let read = contents(&write(&sheet), 2 * nodes, 2 * nodes);
+            let read = contents(&write(&sheet), 2 * nodes, 2 * nodes, nodes);
             assert_eq!(read, Ok(sheet));
         }
     }
@@ -303,11 +356,12 @@ mod tests {
     #[test]
     fn refusals_in_order() {
         let file = write(&example());
-        let number = |file: &[u8]| read(file, &[0; 6], &[0; 6]).number;
+        let number = |file: &[u8]| read(file, &[0; 6], &[0; 6], &[0; 3]).number;
         assert_eq!(number(&[]), 9);
         assert_eq!(number(&file[..512]), 9);
         assert_eq!(number(&file[..1_023]), 9);
-        assert_eq!(number(&[0; 9_728]), 9);
+        assert_eq!(number(&[0; 11_264]), 11);
+        assert_eq!(number(&[0; 11_776]), 9);
         assert_eq!(number(&[0; 1_024]), 11);
         let mut flipped = file.clone();
         flipped[600] ^= 1;
@@ -319,26 +373,32 @@ mod tests {
             number(&bytes_of(&blocks))
         };
         assert_eq!(changed(1, 0, 2), 11);
-        assert_eq!(changed(0, 1, 1), 12);
+        assert_eq!(changed(0, 1, 0), 12);
+        assert_eq!(changed(0, 1, 1), 0);
+        assert_eq!(changed(0, 1, 2), 12);
         assert_eq!(changed(0, 2, 0), 12);
         assert_eq!(changed(0, 2, 4), 12);
         assert_eq!(changed(0, 3, 0), 12);
         assert_eq!(changed(0, 3, 1_024), 0);
         assert_eq!(changed(0, 3, 1_025), 12);
         assert_eq!(changed(0, 254, 1), 12);
-        assert_eq!(changed(1, 1, 63), 12);
-        assert_eq!(changed(1, 13, 1), 0);
-        assert_eq!(changed(1, 14, 1), 12);
+        assert_eq!(changed(1, 1, 50), 12);
+        assert_eq!(changed(1, 16, 65_535), 0);
+        assert_eq!(changed(1, 17, 1), 12);
         assert_eq!(changed(1, 254, 1), 12);
-        assert_eq!(read(&file, &[0; 5], &[0; 6]).number, 7);
-        assert_eq!(read(&file, &[0; 6], &[0; 5]).number, 7);
+        assert_eq!(number(&old_file(&example())), 12);
+        assert_eq!(read(&file, &[0; 5], &[0; 6], &[0; 3]).number, 7);
+        assert_eq!(read(&file, &[0; 6], &[0; 5], &[0; 3]).number, 7);
+        assert_eq!(read(&file, &[0; 6], &[0; 6], &[0; 2]).number, 7);
     }
 
     #[test]
     fn a_call_of_the_writer() {
         let sheet = example();
-        let tapes = [&sheet.tapes[..], &[9]].concat();
-        let written = write_sheet(&sheet.table, sheet.separation, &tapes, &[8; 1_026]);
+        let mut more = sheet.clone();
+        more.tapes.push(9);
+        more.half_widths.push(257);
+        let written = write_sheet(&more, &[8; 1_026]);
         assert_eq!((written.number, written.bytes), (0, 1_024));
         assert_eq!(written.out[..1_024], write(&sheet));
         assert_eq!(written.out[1_024..], [8; 2]);
@@ -347,13 +407,22 @@ mod tests {
             bytes: 0,
             out: vec![8; 1_023],
         };
-        assert_eq!(write_sheet(&sheet.table, 3, &tapes, &[8; 1_023]), refused);
+        assert_eq!(write_sheet(&more, &[8; 1_023]), refused);
     }
 
     #[test]
     fn refusals_of_the_writer_in_order() {
+        let number = |table: &[u16], separation, tapes_len, half_widths: &[u16], out_len| {
+            let sheet = Sheet {
+                separation,
+                table: table.to_vec(),
+                tapes: vec![0; tapes_len],
+                half_widths: half_widths.to_vec(),
+            };
+            write_refusal(&sheet, out_len)
+        };
         let table = example().table;
-        for (number, broken) in [
+        for (wanted, broken) in [
             (1, &table[..5]),
             (2, &[3, NONE, NONE, 2, NONE, NONE]),
             (3, &[1, 2, NONE, 2, NONE, NONE]),
@@ -361,17 +430,19 @@ mod tests {
             (5, &[1, NONE, NONE, NONE, NONE, NONE]),
             (14, &[1, NONE, NONE, NONE, NONE, 2]),
         ] {
-            assert_eq!(write_refusal(broken, 0, 0, 0), number);
-            assert_eq!(write_refusal(broken, 1, 6, 1_024), number);
+            assert_eq!(number(broken, 0, 0, &[], 0), wanted);
+            assert_eq!(number(broken, 1, 6, &[0; 3], 1_024), wanted);
         }
-        assert_eq!(write_refusal(&table, 0, 5, 1_023), 6);
-        assert_eq!(write_refusal(&table, 1_025, 6, 1_024), 6);
-        assert_eq!(write_refusal(&table, 1_024, 5, 1_023), 13);
-        assert_eq!(write_refusal(&table, 1, 5, 1_024), 13);
-        assert_eq!(write_refusal(&table, 1, 6, 1_023), 7);
-        assert_eq!(write_refusal(&table, 1, 6, 1_024), 0);
+        assert_eq!(number(&table, 0, 5, &[0; 2], 1_023), 6);
+        assert_eq!(number(&table, 1_025, 6, &[0; 3], 1_024), 6);
+        assert_eq!(number(&table, 1_024, 5, &[0; 2], 1_023), 13);
+        assert_eq!(number(&table, 1, 5, &[0; 3], 1_024), 13);
+        assert_eq!(number(&table, 1, 6, &[0; 2], 1_023), 17);
+        assert_eq!(number(&table, 1, 6, &[0, 0, 257], 1_024), 17);
+        assert_eq!(number(&table, 1, 6, &[256; 3], 1_023), 7);
+        assert_eq!(number(&table, 1, 6, &[256; 3], 1_024), 0);
         let full = chain(1_024);
-        assert_eq!(write_refusal(&full, 1, 2_048, 9_215), 7);
-        assert_eq!(write_refusal(&full, 1, 2_048, 9_216), 0);
+        assert_eq!(number(&full, 1, 2_048, &[0; 1_024], 11_263), 7);
+        assert_eq!(number(&full, 1, 2_048, &[0; 1_024], 11_264), 0);
     }
 }

@@ -7,17 +7,17 @@ use std::path::{Path, PathBuf};
 use std::process::{Command, Stdio};
 
 /// What a layout's example prints: number, level and place of each node, and the neighbours.
-const LAID_OUT: &str = "0 0 0\n1 1 -1\n2 2 -2\n3 2 1\n4 1 2\n1 beside 4\n2 beside 3\n";
+const LAID_OUT: &str = "0 0 0\n1 1 -3\n2 2 -7\n3 2 1\n4 1 3\n1 beside 4\n2 beside 3\n";
 
 /// What the example of a written sheet prints: the listing of the file.
 const WRITTEN: &str = "\
-sheet 6 3 4 -2 6
+sheet 6 3 4 -5 12
 0 0 0 900
-1 1 -2 901
-2 1 2 902
+1 1 -5 901
+2 1 5 902
 3 2 -2 903
-4 2 2 904
-5 2 6 70000
+4 2 5 904
+5 2 12 70000
 ";
 
 fn root() -> PathBuf {
@@ -67,7 +67,16 @@ fn printed_for(path: &str, program: &mut Command) -> String {
 
 /// The program lists the samples as they are stored.
 fn lists(mut program: Command) {
-    for sample in ["example", "family", "damaged-stray", "damaged-ring"] {
+    for sample in [
+        "example",
+        "family",
+        "shelf-marks",
+        "star-1024",
+        "damaged-stray",
+        "damaged-ring",
+        "damaged-width",
+        "old-p6",
+    ] {
         let printed = printed_for(&format!("samples/{sample}.sheet"), &mut program);
         assert_eq!(printed, text(&format!("samples/{sample}.listing")));
     }

@@ -46,7 +46,7 @@ fn a_short_run_finds_nothing() {
     expect_success(&output_of(Command::new(scripts.join("seeds")).arg(&seeds)));
     let run = output_of(
         Command::new(fuzzer)
-            .args(["-runs=100000", "-max_len=16397", "-timeout=10"])
+            .args(["-runs=100000", "-max_len=16399", "-timeout=10"])
             .arg("-detect_leaks=0")
             .arg(format!("-dict={}", scripts.join("newick.dict").display()))
             .arg(format!("-seed={}", seed() as u32))

@@ -1,19 +1,20 @@
 //! The library's layout held against the model, call by call.
 //!
-//! The four slices lie between margins and hold random entries at first, the result fields too.
-//! After a refusal every entry must be as it was and every field 0; after an acceptance every
-//! entry past those named must be as it was.
+//! The four slices that are written lie between margins and hold random entries at first, the
+//! result fields too. After a refusal every entry must be as it was and every field 0; after an
+//! acceptance every entry past those named must be as it was. Table and half-widths are only read.
 
 use reference::conflicts::Tally;
 use reference::ffi::{self, Fields};
-use reference::layout::{self, Slices};
+use reference::half_widths::{self, some_of, too_great, KINDS};
+use reference::layout::{self, places_without_widths, LaidOut, Slices};
 use reference::lent::{Entry, Lent};
 use reference::run::{Run, Shown};
-use reference::shapes::{self, SHAPES};
+use reference::shapes::{self, random_table, SHAPES};
 use reference::table::NONE;
 use std::fmt;
 
-/// The lengths of the slices that are lent.
+/// The lengths of the slices that are lent to be written.
 #[derive(Clone, Copy, Debug)]
 struct Lengths {
     places: usize,
@@ -32,12 +33,26 @@ impl Lengths {
             work: 16 * nodes,
         }
     }
+
+    /// All exact, and then each too short by one, with the number that it gives.
+    fn short_by_one(nodes: usize) -> [(u16, Self); 5] {
+        let exact = Lengths::exact(nodes);
+        let mut cases = [(7, exact); 5];
+        cases[0].0 = 0;
+        cases[1].1.places = exact.places.saturating_sub(1);
+        cases[2].1.levels = exact.levels.saturating_sub(1);
+        cases[3].1.record = exact.record.saturating_sub(1);
+        cases[4].0 = 8;
+        cases[4].1.work = exact.work.saturating_sub(1);
+        cases
+    }
 }
 
 /// What a call was given, for the message of a failure.
 struct Call<'a> {
     table: &'a [u16],
     separation: u16,
+    half_widths: &'a [u16],
     lengths: Lengths,
 }
 
@@ -46,12 +61,14 @@ impl fmt::Display for Call<'_> {
         let Call {
             table,
             separation,
+            half_widths,
             lengths,
         } = self;
         write!(
             f,
-            "layout with separation {separation}, {lengths:?}, {}",
-            Shown(table)
+            "layout with separation {separation}, {lengths:?}, {}; half-widths as {}",
+            Shown(table),
+            Shown(half_widths)
         )
     }
 }
@@ -61,15 +78,23 @@ struct Comparison {
 }
 
 impl Comparison {
-    fn lay_out(&mut self, table: &[u16], separation: u16, lengths: Lengths) -> u16 {
+    fn lay_out(
+        &mut self,
+        table: &[u16],
+        separation: u16,
+        half_widths: &[u16],
+        lengths: Lengths,
+    ) -> LaidOut {
         self.run.count_call();
         let call = Call {
             table,
             separation,
+            half_widths,
             lengths,
         };
         let given = table.to_vec();
         let random = &mut self.run.random;
+        let widths: Lent<u16> = Lent::holding(half_widths, random);
         let mut places: Lent<i32> = Lent::new(lengths.places, random);
         let mut levels: Lent<u16> = Lent::new(lengths.levels, random);
         let mut record: Lent<u16> = Lent::new(lengths.record, random);
@@ -87,14 +112,14 @@ impl Comparison {
             record: record.before(),
             work: work.before(),
         };
-        let wanted = layout::layout(table, separation, &before);
+        let wanted = layout::layout(table, separation, half_widths, &before);
         let mut lent = ffi::Slices {
             places: places.slice(),
             levels: levels.slice(),
             record: record.slice(),
             work: work.slice(),
         };
-        let number = ffi::layout(&given, separation, &mut lent, &mut fields);
+        let number = ffi::layout(&given, separation, widths.after(), &mut lent, &mut fields);
         self.run.count_number(number);
         let run = &self.run;
         run.expect("number", number, wanted.number, &call);
@@ -114,8 +139,11 @@ impl Comparison {
         self.expect_margins("levels", &levels, &call);
         self.expect_margins("record", &record, &call);
         self.expect_margins("work", &work, &call);
+        self.expect_margins("half-widths", &widths, &call);
         self.run.expect_slice("table", &given, table, &call);
-        number
+        self.run
+            .expect_slice("half-widths", widths.after(), half_widths, &call);
+        wanted
     }
 
     fn expect_margins<T: Entry>(&self, what: &str, lent: &Lent<T>, call: &Call) {
@@ -124,12 +152,31 @@ impl Comparison {
     }
 
     /// Slices that are just long enough.
-    fn exact(&mut self, table: &[u16], separation: u16) -> u16 {
-        self.lay_out(table, separation, Lengths::exact(table.len() / 2))
+    fn exact(&mut self, table: &[u16], separation: u16, half_widths: &[u16]) -> u16 {
+        let lengths = Lengths::exact(table.len() / 2);
+        self.lay_out(table, separation, half_widths, lengths).number
+    }
+
+    /// The same with half-widths of any kind.
+    fn any_widths(&mut self, table: &[u16], separation: u16) -> u16 {
+        let half_widths = self.half_widths(table.len() / 2);
+        self.exact(table, separation, &half_widths)
+    }
+
+    /// The same with half-widths 0. Where the table is accepted, the drawing is that of D alone.
+    fn without_widths(&mut self, table: &[u16], separation: u16) -> u16 {
+        let nodes = table.len() / 2;
+        let laid = self.lay_out(table, separation, &vec![0; nodes], Lengths::exact(nodes));
+        if laid.number == 0 {
+            let places = places_without_widths(table, separation);
+            self.run
+                .expect_slice("drawing of D", &laid.places, &places, &Shown(table));
+        }
+        laid.number
     }
 
     fn expect_number(&mut self, table: &[u16], separation: u16, number: u16) {
-        let got = self.exact(table, separation);
+        let got = self.without_widths(table, separation);
         self.run
             .expect("number of the paper", got, number, &"a case of the paper");
     }
@@ -141,22 +188,42 @@ impl Comparison {
         random.between(1, greatest) as u16
     }
 
-    /// Each slice too short by one, all exact, and all longer.
+    fn half_widths(&mut self, nodes: usize) -> Vec<u16> {
+        half_widths::of_any_kind(nodes, &mut self.run.random)
+    }
+
+    /// Half-widths that are refused: too few, or one of them or more too great.
+    fn refused_widths(&mut self, nodes: usize) -> Vec<u16> {
+        let mut half_widths = self.half_widths(nodes);
+        let random = &mut self.run.random;
+        match random.below(4) {
+            0 => half_widths.truncate(nodes.saturating_sub(1)),
+            1 => half_widths.truncate(random.below(nodes.max(1))),
+            _ if nodes > 0 => half_widths = half_widths::damaged(&half_widths, random),
+            _ => (),
+        }
+        half_widths
+    }
+
+    /// Each slice too short by one, all exact, and all longer; each time with half-widths that are
+    /// taken, past which any words stand, and with such as are refused.
     fn every_length(&mut self, table: &[u16]) {
         let separation = self.separation();
-        let exact = Lengths::exact(table.len().div_ceil(2));
-        let mut cases = [exact; 6];
-        cases[1].places = exact.places.saturating_sub(1);
-        cases[2].levels = exact.levels.saturating_sub(1);
-        cases[3].record = exact.record.saturating_sub(1);
-        cases[4].work = exact.work.saturating_sub(1);
+        let nodes = table.len().div_ceil(2);
         let random = &mut self.run.random;
-        cases[5].places += random.between(1, 9);
-        cases[5].levels += random.between(1, 9);
-        cases[5].record += random.between(1, 9);
-        cases[5].work += random.between(1, 33);
-        for lengths in cases {
-            self.lay_out(table, separation, lengths);
+        let mut longer = Lengths::exact(nodes);
+        longer.places += random.between(1, 9);
+        longer.levels += random.between(1, 9);
+        longer.record += random.between(1, 9);
+        longer.work += random.between(1, 33);
+        let cases = Lengths::short_by_one(nodes).map(|(_, lengths)| lengths);
+        for lengths in cases.into_iter().chain([longer]) {
+            let mut taken = self.half_widths(nodes);
+            let random = &mut self.run.random;
+            taken.extend((0..random.below(4)).map(|_| random.word()));
+            self.lay_out(table, separation, &taken, lengths);
+            let refused = self.refused_widths(nodes);
+            self.lay_out(table, separation, &refused, lengths);
         }
     }
 
@@ -190,31 +257,57 @@ impl Comparison {
         for nodes in 1..=8 {
             for table in shapes::every_tree(nodes) {
                 for separation in [1, 2, 3, 5, 1_024] {
-                    self.exact(&table, separation);
+                    self.without_widths(&table, separation);
+                    self.any_widths(&table, separation);
+                    let half_widths = some_of(&[0, 1, 256], nodes, &mut self.run.random);
+                    self.exact(&table, separation, &half_widths);
                 }
                 for separation in [0, 1_025, u16::MAX] {
-                    self.exact(&table, separation);
+                    self.any_widths(&table, separation);
                 }
                 let random = &mut self.run.random;
                 let renumbered = shapes::renumbered_at_random(&table, random);
                 let separation = self.separation();
-                self.exact(&renumbered, separation);
+                self.any_widths(&renumbered, separation);
                 self.every_length(&table);
             }
         }
         self.run.end_section("every tree of up to 8 nodes");
+        for nodes in 1..=6 {
+            for table in shapes::every_tree(nodes) {
+                for mut choice in 0..3_usize.pow(nodes as u32) {
+                    let half_widths: Vec<u16> = (0..nodes)
+                        .map(|_| {
+                            let width = [0, 1, 256][choice % 3];
+                            choice /= 3;
+                            width
+                        })
+                        .collect();
+                    let separation = self.separation();
+                    self.exact(&table, separation, &half_widths);
+                }
+            }
+        }
+        self.run
+            .end_section("every tree of up to 6 nodes with every half-width of 0, 1 and 256");
     }
 
     /// Every shape in many sizes, as it is and with other numbers; then the same damaged.
     fn shapes(&mut self) {
         let tables = shapes::of_many_sizes(40, 40, 8, &mut self.run.random);
         for table in &tables {
-            for separation in [1, 1_024, self.separation()] {
-                let number = self.exact(table, separation);
-                self.run.expect("number", number, 0, &"a well-formed table");
+            for separation in [1, 1_024] {
+                for kind in &KINDS {
+                    let half_widths = (kind.make)(table.len() / 2, &mut self.run.random);
+                    let number = self.exact(table, separation, &half_widths);
+                    self.run.expect("number", number, 0, &kind.name);
+                }
             }
+            let separation = self.separation();
+            let number = self.without_widths(table, separation);
+            self.run.expect("number", number, 0, &"a well-formed table");
             for separation in [0, 1_025, u16::MAX] {
-                self.exact(table, separation);
+                self.any_widths(table, separation);
             }
             self.every_length(table);
         }
@@ -223,7 +316,7 @@ impl Comparison {
             for count in 1..=4 {
                 let damaged = shapes::damaged(table, count, &mut self.run.random);
                 let separation = self.separation();
-                self.exact(&damaged, separation);
+                self.any_widths(&damaged, separation);
             }
             let damaged = shapes::damaged(table, 1, &mut self.run.random);
             self.every_length(&damaged);
@@ -240,7 +333,7 @@ impl Comparison {
         for nodes in (2..=40).chain([64, 65, 300, 1_023, 1_024]) {
             for (wanted, table) in shapes::strays_and_rings(nodes, &mut self.run.random) {
                 for separation in [0, 1, 1_024, 1_025] {
-                    let number = self.exact(&table, separation);
+                    let number = self.any_widths(&table, separation);
                     self.run
                         .expect("number", number, wanted, &"strays and rings");
                 }
@@ -250,18 +343,87 @@ impl Comparison {
         self.run.end_section("strays and rings");
     }
 
-    /// Trees made for their conflicts, which are tallied before any of them is laid out.
+    /// Half-widths at the bound and above it, on the first nodes, the last and past them, and too
+    /// few.
+    fn bounds_of_half_widths(&mut self) {
+        for nodes in (1..=20).chain([49, 50, 51, 300, 1_023, 1_024]) {
+            let table = random_table(nodes, &mut self.run.random);
+            for node in (0..nodes).filter(|&node| node < 10 || node + 10 >= nodes) {
+                for (width, wanted) in [
+                    (0, 0),
+                    (255, 0),
+                    (256, 0),
+                    (257, 17),
+                    (512, 17),
+                    (32_768, 17),
+                    (u16::MAX, 17),
+                ] {
+                    let mut half_widths = self.half_widths(nodes);
+                    half_widths[node] = width;
+                    let number = self.exact(&table, 5, &half_widths);
+                    self.run.expect("number", number, wanted, &"one half-width");
+                }
+            }
+            for past in [257, u16::MAX, too_great(&mut self.run.random)] {
+                for more in [1, 2, 9, nodes, 65_535, 65_536 - nodes] {
+                    let mut half_widths = self.half_widths(nodes);
+                    half_widths.resize(nodes + more, past);
+                    let number = self.exact(&table, 5, &half_widths);
+                    self.run
+                        .expect("number", number, 0, &"half-widths past the last node");
+                }
+            }
+            for len in [0, nodes - 1, nodes / 2] {
+                let half_widths = self.half_widths(nodes);
+                let number = self.exact(&table, 5, &half_widths[..len]);
+                self.run
+                    .expect("number", number, 17, &"too few half-widths");
+            }
+        }
+        self.run
+            .end_section("half-widths at their bounds, in and past the first n");
+    }
+
+    /// 17 stands after 6 and before 7 and 8.
+    fn order_of_conditions(&mut self) {
+        for nodes in (1..=9).chain([50, 51, 1_024]) {
+            let table = random_table(nodes, &mut self.run.random);
+            for separation in [0, 1, 5, 1_024, 1_025] {
+                for (number, lengths) in Lengths::short_by_one(nodes) {
+                    for widths_taken in [true, false] {
+                        let half_widths = match widths_taken {
+                            true => self.half_widths(nodes),
+                            false => self.refused_widths(nodes),
+                        };
+                        let got = self.lay_out(&table, separation, &half_widths, lengths);
+                        let wanted = match (separation, widths_taken) {
+                            (0 | 1_025, _) => 6,
+                            (_, false) => 17,
+                            (_, true) => number,
+                        };
+                        self.run
+                            .expect("number", got.number, wanted, &"several faults");
+                    }
+                }
+            }
+        }
+        self.run.end_section("several faults at once");
+    }
+
+    /// Trees made for their conflicts, which are tallied before any of them is laid out; each
+    /// without half-widths and with some.
     fn conflicts(&mut self) {
         let sections = shapes::made_for_conflicts(&mut self.run.random);
         let mut tally = Tally::default();
         for (table, separation) in sections.iter().flat_map(|(_, trees)| trees) {
-            tally.add(table, *separation);
+            tally.add(table, *separation, &vec![0; table.len() / 2]);
         }
         self.run.note(&tally.to_string());
         tally.expect_every_kind();
         for (title, trees) in sections {
             for (count, (table, separation)) in trees.into_iter().enumerate() {
-                self.exact(&table, separation);
+                self.without_widths(&table, separation);
+                self.any_widths(&table, separation);
                 if count % 7 == 0 {
                     self.every_length(&table);
                 }
@@ -270,7 +432,8 @@ impl Comparison {
         }
     }
 
-    /// Small trees at random: many of them, with slices of any length now and then.
+    /// Small trees at random: many of them, with slices of any length and half-widths that are
+    /// refused now and then.
     fn small_trees(&mut self) {
         for _ in 0..110_000 {
             let separation = self.separation();
@@ -288,19 +451,25 @@ impl Comparison {
                     work: random.between(0, 48 * nodes),
                 };
             }
-            self.lay_out(&table, separation, lengths);
+            let half_widths = match random.once_in(16) {
+                true => self.refused_widths(nodes),
+                false => self.half_widths(nodes),
+            };
+            self.lay_out(&table, separation, &half_widths, lengths);
         }
         self.run.end_section("small trees of many shapes");
         // Slices so long that the low 16 bits of their lengths alone would be too short.
         for nodes in [1, 2, 3, 64, 1_024] {
-            let table = shapes::random(nodes, &mut self.run.random);
+            let table = random_table(nodes, &mut self.run.random);
             let long = Lengths {
                 places: 65_536,
                 levels: 65_536,
                 record: 65_536,
                 work: 65_536,
             };
-            self.lay_out(&table, 5, long);
+            let mut half_widths = self.half_widths(nodes);
+            half_widths.resize(65_536, u16::MAX);
+            self.lay_out(&table, 5, &half_widths, long);
         }
         self.run.end_section("slices of 65,536 entries");
     }
@@ -315,10 +484,12 @@ fn the_layout_agrees_with_the_model() {
     comparison.every_small_tree();
     comparison.shapes();
     comparison.strays_and_rings();
+    comparison.bounds_of_half_widths();
+    comparison.order_of_conditions();
     comparison.conflicts();
     comparison.small_trees();
     comparison
         .run
-        .expect_numbers(&[0, 1, 2, 3, 4, 5, 6, 7, 8, 14]);
-    comparison.run.finish(100_000);
+        .expect_often(&[0, 1, 2, 3, 4, 5, 6, 7, 8, 14, 17], 10);
+    comparison.run.finish(250_000);
 }

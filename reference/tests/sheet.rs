@@ -1,30 +1,56 @@
 //! The library's sheet reader held against the model, call by call.
 //!
-//! The two slices lie between margins and hold random entries at first, the result fields too.
+//! The three slices lie between margins and hold random entries at first, the result fields too.
 //! After a refusal every entry must be as it was and both fields 0; after an acceptance every
 //! entry past those named must be as it was.
 
 use reference::ffi;
-use reference::files::{self, sheet_of_words};
+use reference::files::{self, edges_of_blocks, sheet_of_words};
 use reference::lent::Lent;
 use reference::run::Run;
-use reference::sheet::{self, BLOCK_BYTES, BLOCK_WORDS, CLOSING_WORD, MOST_BLOCKS};
+use reference::sheet::{self, BLOCK_BYTES, BLOCK_ROWS, BLOCK_WORDS, CLOSING_WORD, MOST_BLOCKS};
 use std::fmt;
+
+/// The lengths of the slices that are lent.
+#[derive(Clone, Copy, Debug)]
+struct Lengths {
+    table: usize,
+    tapes: usize,
+    half_widths: usize,
+}
+
+impl Lengths {
+    /// Just long enough for so many nodes.
+    fn exact(nodes: usize) -> Self {
+        Lengths {
+            table: 2 * nodes,
+            tapes: 2 * nodes,
+            half_widths: nodes,
+        }
+    }
+
+    /// The same length for all.
+    fn all(len: usize) -> Self {
+        Lengths {
+            table: len,
+            tapes: len,
+            half_widths: len,
+        }
+    }
+}
 
 /// What a call was given, for the message of a failure.
 struct Call<'a> {
     file: &'a [u8],
-    table_len: usize,
-    tapes_len: usize,
+    lengths: Lengths,
 }
 
 impl fmt::Display for Call<'_> {
     fn fmt(&self, f: &mut fmt::Formatter) -> fmt::Result {
         write!(
             f,
-            "read_sheet with table_len {}, tapes_len {}, a file of {} bytes: {:?}",
-            self.table_len,
-            self.tapes_len,
+            "read_sheet with {:?}, a file of {} bytes: {:?}",
+            self.lengths,
             self.file.len(),
             &self.file[..self.file.len().min(32)]
         )
@@ -33,7 +59,7 @@ impl fmt::Display for Call<'_> {
 
 /// The greatest count of nodes in a file of so many blocks.
 fn most_nodes(blocks: usize) -> usize {
-    (63 * (blocks - 1)).min(1_024)
+    (BLOCK_ROWS * (blocks - 1)).min(1_024)
 }
 
 struct Comparison {
@@ -41,24 +67,22 @@ struct Comparison {
 }
 
 impl Comparison {
-    fn read(&mut self, file: &[u8], table_len: usize, tapes_len: usize) -> u16 {
+    fn read(&mut self, file: &[u8], lengths: Lengths) -> u16 {
         self.run.count_call();
-        let call = Call {
-            file,
-            table_len,
-            tapes_len,
-        };
+        let call = Call { file, lengths };
         let given = file.to_vec();
         let random = &mut self.run.random;
         let mut nodes: Lent<u16> = Lent::new(1, random);
         let mut separation: Lent<u16> = Lent::new(1, random);
-        let mut table: Lent<u16> = Lent::new(table_len, random);
-        let mut tapes: Lent<u16> = Lent::new(tapes_len, random);
-        let wanted = sheet::read(file, table.before(), tapes.before());
+        let mut table: Lent<u16> = Lent::new(lengths.table, random);
+        let mut tapes: Lent<u16> = Lent::new(lengths.tapes, random);
+        let mut half_widths: Lent<u16> = Lent::new(lengths.half_widths, random);
+        let wanted = sheet::read(file, table.before(), tapes.before(), half_widths.before());
         let number = ffi::read_sheet(
             &given,
             table.slice(),
             tapes.slice(),
+            half_widths.slice(),
             &mut nodes.slice()[0],
             &mut separation.slice()[0],
         );
@@ -69,11 +93,14 @@ impl Comparison {
         run.expect("D", separation.after()[0], wanted.separation, &call);
         run.expect_slice("table", table.after(), &wanted.table, &call);
         run.expect_slice("tapes", tapes.after(), &wanted.tapes, &call);
+        let widths = half_widths.after();
+        run.expect_slice("half-widths", widths, &wanted.half_widths, &call);
         for (what, lent) in [
             ("nodes", &nodes),
             ("D", &separation),
             ("table", &table),
             ("tapes", &tapes),
+            ("half-widths", &half_widths),
         ] {
             let what = format!("margins of {what} untouched");
             run.expect(&what, lent.margins_untouched(), true, &call);
@@ -83,8 +110,8 @@ impl Comparison {
     }
 
     /// The call and, besides the model's, a number that must come out.
-    fn read_as(&mut self, wanted: u16, what: &str, file: &[u8], slice_len: usize) {
-        let number = self.read(file, slice_len, slice_len);
+    fn read_as(&mut self, wanted: u16, what: &str, file: &[u8], lengths: Lengths) {
+        let number = self.read(file, lengths);
         self.run
             .expect(what, number, wanted, &"the paper's own number");
     }
@@ -94,37 +121,53 @@ impl Comparison {
         let file = sheet::write(&sheet);
         let blocks = sheet::blocks_of(&file);
         let run = &self.run;
-        run.expect("check 0", blocks[0][CLOSING_WORD], 65_530, &"the example");
+        run.expect("check 0", blocks[0][CLOSING_WORD], 65_529, &"the example");
         run.expect("check 1", blocks[1][CLOSING_WORD], 64_030, &"the example");
-        self.read_as(0, "the example", &file, 6);
-        self.read_as(7, "the example", &file, 5);
+        let exact = Lengths::exact(3);
+        self.read_as(0, "the example", &file, exact);
+        for short in [
+            Lengths { table: 5, ..exact },
+            Lengths { tapes: 5, ..exact },
+            Lengths {
+                half_widths: 2,
+                ..exact
+            },
+        ] {
+            self.read_as(7, "the example", &file, short);
+        }
         self.run.end_section("the example of the paper");
     }
 
     /// Slices short by one, exact and longer, in all ways.
     fn all_slices(&mut self, file: &[u8], nodes: usize) {
-        let longer = 2 * nodes + self.run.random.between(1, 9);
-        let lengths = [2 * nodes - 1, 2 * nodes, longer];
-        for table_len in lengths {
-            for tapes_len in lengths {
-                let number = self.read(file, table_len, tapes_len);
-                let short = table_len < 2 * nodes || tapes_len < 2 * nodes;
-                self.run
-                    .expect("number", number, if short { 7 } else { 0 }, &"a sound file");
+        let more = self.run.random.between(1, 9);
+        let of_needed = |needed: usize| [needed - 1, needed, needed + more];
+        for table in of_needed(2 * nodes) {
+            for tapes in of_needed(2 * nodes) {
+                for half_widths in of_needed(nodes) {
+                    let lengths = Lengths {
+                        table,
+                        tapes,
+                        half_widths,
+                    };
+                    let short = table < 2 * nodes || tapes < 2 * nodes || half_widths < nodes;
+                    let wanted = if short { 7 } else { 0 };
+                    self.read_as(wanted, "a sound file", file, lengths);
+                }
             }
         }
     }
 
     fn sound_files(&mut self) {
-        for nodes in [1, 62, 63, 64, 126, 127, 1_008, 1_009, 1_024] {
-            for _ in 0..20 {
+        for nodes in edges_of_blocks() {
+            for _ in 0..4 {
                 let file = sheet::write(&sheet_of_words(nodes, &mut self.run.random));
                 self.all_slices(&file, nodes);
-                self.read_as(7, "empty slices", &file, 0);
+                self.read_as(7, "empty slices", &file, Lengths::all(0));
             }
             // The low 16 bits of these lengths alone would be too short.
             let file = sheet::write(&sheet_of_words(nodes, &mut self.run.random));
-            self.read_as(0, "long slices", &file, 65_536);
+            self.read_as(0, "long slices", &file, Lengths::all(65_536));
         }
         for nodes in 1..=1_024 {
             let file = sheet::write(&sheet_of_words(nodes, &mut self.run.random));
@@ -139,7 +182,7 @@ impl Comparison {
         assert_eq!(file.len(), 3 * BLOCK_BYTES);
         for bit in 0..8 * file.len() {
             file[bit / 8] ^= 1 << (bit % 8);
-            self.read_as(10, "one bit", &file, 200);
+            self.read_as(10, "one bit", &file, Lengths::exact(100));
             file[bit / 8] ^= 1 << (bit % 8);
         }
         self.run
@@ -181,12 +224,12 @@ impl Comparison {
                 arrangements.push(reordered);
             }
             for mut arrangement in arrangements {
-                self.read(&sheet::bytes_of(&arrangement), 2 * nodes, 2 * nodes);
+                self.read(&sheet::bytes_of(&arrangement), Lengths::exact(nodes));
                 for (place, block) in arrangement.iter_mut().enumerate() {
                     block[0] = place as u16;
                     sheet::close(block);
                 }
-                self.read(&sheet::bytes_of(&arrangement), 2 * nodes, 2 * nodes);
+                self.read(&sheet::bytes_of(&arrangement), Lengths::exact(nodes));
             }
         }
         self.run
@@ -195,7 +238,7 @@ impl Comparison {
 
     /// Each word that the layout fixes, changed in several ways with the check mended.
     fn fixed_words(&mut self) {
-        for nodes in [1, 5, 62, 63, 64, 126, 127, 1_009, 1_024] {
+        for nodes in [1, 5, 49, 50, 51, 100, 101, 1_001, 1_024] {
             let file = sheet::write(&sheet_of_words(nodes, &mut self.run.random));
             let mut blocks = sheet::blocks_of(&file);
             for place in 0..blocks.len() {
@@ -215,13 +258,14 @@ impl Comparison {
                         blocks[place][index] = wrong;
                         sheet::close(&mut blocks[place]);
                         let file = sheet::bytes_of(&blocks);
-                        self.read_as(wanted, "a fixed word", &file, 2 * nodes);
+                        self.read_as(wanted, "a fixed word", &file, Lengths::exact(nodes));
                     }
                     blocks[place][index] = value;
                     sheet::close(&mut blocks[place]);
                 }
             }
-            self.read_as(0, "all words mended", &sheet::bytes_of(&blocks), 2 * nodes);
+            let file = sheet::bytes_of(&blocks);
+            self.read_as(0, "all words mended", &file, Lengths::exact(nodes));
         }
         self.run
             .end_section("each fixed word changed with the check mended");
@@ -230,7 +274,7 @@ impl Comparison {
     /// n and D at their bounds in files of every length.
     fn bounds(&mut self) {
         let values = [
-            0, 1, 2, 62, 63, 64, 126, 127, 1_008, 1_009, 1_023, 1_024, 1_025, 32_768, 65_535,
+            0, 1, 2, 49, 50, 51, 100, 101, 1_000, 1_001, 1_023, 1_024, 1_025, 32_768, 65_535,
         ];
         for blocks in 2..=MOST_BLOCKS {
             let nodes = most_nodes(blocks);
@@ -242,30 +286,64 @@ impl Comparison {
                     blocks[0][3] = separation;
                     sheet::close(&mut blocks[0]);
                     let file = sheet::bytes_of(&blocks);
-                    let number = self.read(&file, 2_048, 2_048);
+                    let number = self.read(&file, Lengths::exact(1_024));
                     let taken = usize::from(n) == nodes && (1..=1_024).contains(&separation);
                     let wanted = if taken { 0 } else { 12 };
                     self.run
                         .expect("number", number, wanted, &"n and D at their bounds");
-                    self.read(&file, 2 * nodes - 1, 2 * nodes);
+                    let half_widths = nodes - 1;
+                    let short = Lengths {
+                        half_widths,
+                        ..Lengths::exact(nodes)
+                    };
+                    self.read(&file, short);
                 }
             }
         }
         self.run.end_section("n and D at their bounds");
     }
 
+    /// Each node's half-width alone, of any size: it is carried and not judged.
+    fn half_widths(&mut self) {
+        for nodes in edges_of_blocks().chain(1..=9) {
+            for width in [1, 255, 256, 257, 32_768, 65_535] {
+                let mut sheet = sheet_of_words(nodes, &mut self.run.random);
+                sheet.half_widths.fill(0);
+                for node in [0, self.run.random.below(nodes), nodes - 1] {
+                    sheet.half_widths[node] = width;
+                    let file = sheet::write(&sheet);
+                    self.read_as(0, "a half-width", &file, Lengths::exact(nodes));
+                }
+            }
+        }
+        self.run
+            .end_section("half-widths that are carried unjudged");
+    }
+
+    /// Files with four words a row, 63 rows to a block and 0 as word 1 of block 0; then with
+    /// today's word 1, so that what is left to tell them apart is the rows.
+    fn old_files(&mut self) {
+        for nodes in 1..=1_024 {
+            let sheet = sheet_of_words(nodes, &mut self.run.random);
+            let lengths = Lengths::exact(nodes);
+            self.read_as(12, "an old file", &files::old_file(&sheet), lengths);
+            self.read(&files::old_file_renamed(&sheet), lengths);
+        }
+        self.run.end_section("files of the old layout");
+    }
+
     fn lengths(&mut self) {
         for len in (0..=1_600)
-            .chain(9_216..=9_730)
-            .chain([10_240, 65_536, 66_560])
+            .chain(11_263..=11_777)
+            .chain([9_216, 9_728, 12_288, 65_536, 66_560])
         {
-            for nodes in [63, 1_024] {
+            for nodes in [50, 1_024] {
                 // A sound file cut off or followed by zeros, zeros alone, and random bytes.
                 let mut cut = sheet::write(&sheet_of_words(nodes, &mut self.run.random));
                 cut.resize(len, 0);
                 for file in [cut, vec![0; len], self.run.random.bytes(len)] {
-                    let number = self.read(&file, 2 * nodes, 2 * nodes);
-                    let refused = len % 512 != 0 || !(1_024..=9_216).contains(&len);
+                    let number = self.read(&file, Lengths::exact(nodes));
+                    let refused = len % 512 != 0 || !(1_024..=11_264).contains(&len);
                     self.run.expect(
                         "refused 9",
                         number == 9,
@@ -285,8 +363,10 @@ impl Comparison {
             let count = random.between(2, MOST_BLOCKS);
             let nodes = most_nodes(count) - random.below(16);
             let file = files::mended_by_steps(nodes, random);
-            let slice_len = 2 * nodes - random.below(2);
-            self.read(&file, slice_len, 2 * nodes);
+            let mut lengths = Lengths::exact(nodes);
+            lengths.table -= random.below(2);
+            lengths.half_widths -= random.below(2);
+            self.read(&file, lengths);
         }
         self.run.end_section("random bytes, mended by steps");
     }
@@ -302,9 +382,12 @@ impl Comparison {
             let sheet = sheet_of_words(nodes, random);
             let mut blocks = sheet::blocks_of(&sheet::write(&sheet));
             files::change_words(&mut blocks, random);
-            let table_len = 2 * nodes + 1 - random.below(3);
-            let tapes_len = 2 * nodes + 1 - random.below(3);
-            self.read(&sheet::bytes_of(&blocks), table_len, tapes_len);
+            let lengths = Lengths {
+                table: 2 * nodes + 1 - random.below(3),
+                tapes: 2 * nodes + 1 - random.below(3),
+                half_widths: nodes + 1 - random.below(3),
+            };
+            self.read(&sheet::bytes_of(&blocks), lengths);
         }
         self.run
             .end_section("one to four words changed, checks mended or not");
@@ -322,8 +405,11 @@ fn the_sheet_reader_agrees_with_the_model() {
     comparison.moved_blocks();
     comparison.fixed_words();
     comparison.bounds();
+    comparison.half_widths();
+    comparison.old_files();
     comparison.lengths();
     comparison.random_files();
     comparison.damaged_files();
-    comparison.run.finish(100_000);
+    comparison.run.expect_often(&[0, 7, 9, 10, 11, 12], 5_000);
+    comparison.run.finish(120_000);
 }

@@ -5,6 +5,7 @@ use Prim.Native.Nat.{ℕ, zero, suc, _+_, _-_, _≤_, _<_}
 use native.Mathlib.Nat.{le-refl}
 use native.Mathlib.Omega.{arith}
 use lib.IntN.{ℤ, pos, _-ℤ_}
+use Rattle.distance.specs.Needed.{Distance}
 use Rattle.rule.specs.Drawing.{Drawing, none, at, width, append, placeAt, middle}
 use Rattle.rule.specs.Join.{Meeting, spread, alone, settled, meetings}
 use Rattle.rule.specs.Join as rule
@@ -27,7 +28,7 @@ module _ (under : ℕ → Drawing) where
   kids-spread j ms p none a r = tt
   kids-spread j ms p (at v x below after) a r = (r .0, r .1, kids-spread j ms (p + 1) after (suc a) (r .2))
 
-  kids-join : (D : ℕ) (row : Drawing) (a v : ℕ) → v ≡ a + width row → Kids under a row → Kids under a (rule.join D row v (under v))
+  kids-join : (D : Distance) (row : Drawing) (a v : ℕ) → v ≡ a + width row → Kids under a row → Kids under a (rule.join D row v (under v))
   kids-join D row a v h r =
       let ms = meetings D row v (under v) in
       kids-last (spread (width row) ms 0 row) a v (settled D row v (under v)) (omega (arith, width-spread (width row) ms 0 row)) (kids-spread (width row) ms 0 row a r)
@@ -46,7 +47,7 @@ module _ (under : ℕ → Drawing) where
             (λ q h k. u q (omega arith) (omega arith)),
       )
 
-module _ (first : ℕ → ℕ) (n : ℕ) (O : Ordered first n) (D : ℕ) where
+module _ (first : ℕ → ℕ) (n : ℕ) (O : Ordered first n) (D : Distance) where
   kids-row : (k f c : ℕ) → c ≡ f + k → c ≤ n → Kids (childrenDrawn first n D) f (rowDrawn first n D f c)
   kids-row zero f c e h = rw (run-nil first n O f c (omega arith)) tt
   kids-row (suc k) f zero e h = absurd (omega arith)

@@ -6,6 +6,7 @@ use Prim.Native.Nat.{ℕ, suc, _+_, _-_, _≤_, _<_}
 use native.Mathlib.Nat.{le-refl}
 use native.Mathlib.Omega.{arith}
 use lib.IntN.{pos, _+ℤ_, +ℤ-assoc}
+use Rattle.distance.specs.Needed.{Distance}
 use Rattle.tree.specs.Levels.{beside}
 use Rattle.tree.proofs.Counting.{is-cases}
 use Rattle.rule.specs.Drawing.{Drawing, none, width, placeAt, Dot, dots, rowDots, leftContour, rightContour}
@@ -28,7 +29,7 @@ use Rattle.contours.proofs.Places.{join-place, join-new, row-more, row-
 abbrev pub fieldsOf : Columns → Fields
 fieldsOf w = record { ancestor = w .ancestor; shift = w .shift; change = w .change }
 
-module _ (first : ℕ → ℕ) (n : ℕ) (O : Ordered first n) (D f c end default : ℕ) (some : f < c) (inside : c < end) (fits : end ≤ n) where
+module _ (first : ℕ → ℕ) (n : ℕ) (O : Ordered first n) (D : Distance) (f c end default : ℕ) (some : f < c) (inside : c < end) (fits : end ≤ n) where
   -- the row, the drawing below the new child, and the levels of both
   abbrev pub theRow : Drawing
   theRow = rowDrawn first n D f c
@@ -61,7 +62,7 @@ module _ (first : ℕ → ℕ) (n : ℕ) (O : Ordered first n) (D f c end defaul
         first = first;
         n = n;
         ordered = O;
-        separation = D;
+        need = D;
         f = f;
         c = c;
         end = end;

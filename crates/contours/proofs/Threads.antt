@@ -6,11 +6,12 @@ use Prim.Native.Nat.{ℕ, _+_, _≤_, _<_}
 use native.Mathlib.Nat.{le-refl, le-trans}
 use native.Mathlib.Omega.{arith}
 use lib.IntN.{pos, _+ℤ_, +ℤ-idr}
+use Rattle.distance.specs.Needed.{Distance}
 use Rattle.tree.specs.Forest.{Forest, nil, node}
 use Rattle.tree.proofs.Counting.{All, all-weaken, all-map}
 use Rattle.tree.proofs.Joined.{Some, some}
 use Rattle.rule.specs.Drawing.{Drawing, none, width, Dot, dot, dots, rowDots, firstOf, lastOf, leftContour, rightContour}
-use Rattle.rule.specs.Join.{Meeting, needed, shortfall, meet, shares, total, start, alone, join, meetings}
+use Rattle.rule.specs.Join.{Meeting, shortfall, meet, shares, total, start, alone, join, meetings}
 use Rattle.rule.specs.Rule.{drawOnto}
 use Rattle.rule.proofs.Moving.{shiftBy, moveBy, rowDots-join}
 use Rattle.rule.proofs.Spacing.{Spaced, Row, Child, alone-child, row-join, row-none, row-drawOnto}
@@ -32,12 +33,12 @@ rising-over j c [] (e ∷ m) a b h r = (omega (arith, b .0), rising-over j (e .c
 rising-over j c (d ∷ l) [] a b h r = r
 rising-over j c (d ∷ l) (e ∷ m) a b h r = (r .0, rising-over j (d .child) l m (a .1) (b .1) (omega (arith, a .0)) (r .1))
 
-order-in : (D : ℕ) (x : List Dot) → Some x → Spaced D x → (firstOf x) .child ≤ (lastOf x) .child
+order-in : (D : Distance) (x : List Dot) → Some x → Spaced D x → (firstOf x) .child ≤ (lastOf x) .child
 order-in D (d ∷ []) s p = le-refl _
 order-in D (d ∷ e ∷ l) s p = le-trans (p .0 .order) (order-in D (e ∷ l) some (p .1))
 
 -- the first child on the deepest level stands between all first ones and all last ones
-between : (D c d : ℕ) (xs : List (List Dot)) → All Some xs → All (Spaced D) xs → Rising c (leftContour xs) → Falling d xs
+between : (D : Distance) (c d : ℕ) (xs : List (List Dot)) → All Some xs → All (Spaced D) xs → Rising c (leftContour xs) → Falling d xs
     → (z : ℕ) × All (λ x. (firstOf x) .child ≤ z) xs × All (λ x. z ≤ (lastOf x) .child) xs
 between D c d [] s p r f = (0, tt, tt)
 between D c d (x ∷ []) s p r f = ((firstOf x) .child, (le-refl _, tt), (order-in D x (s .0) (p .0), tt))
@@ -46,11 +47,11 @@ between D c d (x ∷ y ∷ ys) s p r f =
     (b .0, (le-trans (r .1 .0) (b .1 .0), b .1), (le-trans (b .2 .0) (f .1 .0), b .2))
 
 -- the meeting of two dots, of which the second has been moved
-abbrev meeting : ℕ → ℕ → Dot → Dot → Meeting
-meeting D moved d e = record { child = d .child; amount = shortfall (needed D (d .node) (e .node)) (d .place) (e .place +ℤ pos moved) }
+abbrev meeting : Distance → ℕ → Dot → Dot → Meeting
+meeting D moved d e = record { child = d .child; amount = shortfall (D (d .node) (e .node)) (d .place) (e .place +ℤ pos moved) }
 
 -- a child before every one that is met does not move
-shares-before : (D moved j p : ℕ) (xs : List (List Dot)) (ws : List Dot) → All (λ y. p ≤ (lastOf y) .child) xs → shares j (meet D moved (rightContour xs) ws) p ≡ 0
+shares-before : (D : Distance) (moved j p : ℕ) (xs : List (List Dot)) (ws : List Dot) → All (λ y. p ≤ (lastOf y) .child) xs → shares j (meet D moved (rightContour xs) ws) p ≡ 0
 shares-before D moved j p [] ws a = refl
 shares-before D moved j p (x ∷ xs) [] a = refl
 shares-before D moved j p (x ∷ xs) (w ∷ ws) a =
@@ -64,7 +65,7 @@ all-unmoved : (m : ℕ → ℕ) (l : List Dot) → All (λ e. m (e .child) ≡ 0
 all-unmoved m [] a = refl
 all-unmoved m (e ∷ l) a = ap₂ _∷_ (unmoved m e (a .0)) (all-unmoved m l (a .1))
 
-firsts-stay : (D j : ℕ) (xs : List (List Dot)) (ws : List Dot) → Row D j xs → Rising 0 (leftContour xs)
+firsts-stay : (D : Distance) (j : ℕ) (xs : List (List Dot)) (ws : List Dot) → Row D j xs → Rising 0 (leftContour xs)
     → map (moveBy (shares j (meet D 0 (rightContour xs) ws))) (leftContour xs) ≡ leftContour xs
 firsts-stay D j xs ws R r =
     let b = between D 0 j xs (R .some) (R .spaced) r (R .falling) in
@@ -74,11 +75,11 @@ firsts-stay D j xs ws R r =
 
 -- ---- below the new child's last level no last child is moved
 
-pub meet-none : (D moved : ℕ) (l : List Dot) → meet D moved l [] ≡ []
+pub meet-none : (D : Distance) (moved : ℕ) (l : List Dot) → meet D moved l [] ≡ []
 meet-none D moved [] = refl
 meet-none D moved (e ∷ l) = refl
 
-lasts-stay : (D j c moved : ℕ) (xs ys : List (List Dot)) (m : ℕ → ℕ) (h : Dot → Dot) → Falling c xs
+lasts-stay : (D : Distance) (j c moved : ℕ) (xs ys : List (List Dot)) (m : ℕ → ℕ) (h : Dot → Dot) → Falling c xs
     → ((p : ℕ) → p ≤ c → m p ≡ shares j (meet D moved (rightContour xs) (leftContour ys)) p)
     → over (map h (rightContour ys)) (map (moveBy m) (rightContour xs)) ≡ over (map h (rightContour ys)) (rightContour xs)
 lasts-stay D j c moved [] ys m h f k = refl
@@ -92,7 +93,7 @@ lasts-stay D j c moved (x ∷ xs) (y ∷ ys) m h f k =
 
 -- ---- a join
 
-module _ (D : ℕ) (row : Drawing) (v : ℕ) (below : Drawing) where
+module _ (D : Distance) (row : Drawing) (v : ℕ) (below : Drawing) where
   abbrev xs : List (List Dot)
   xs = rowDots 0 row
 
@@ -121,7 +122,7 @@ module _ (D : ℕ) (row : Drawing) (v : ℕ) (below : Drawing) where
         Own : Dot → Type 0
         Own e = e .child ≡ width row
 
-pub rising-drawOnto : (D : ℕ) (row : Drawing) (f : Forest) → Row D (width row) (rowDots 0 row) → Rising 0 (leftContour (rowDots 0 row)) → Rising 0 (leftContour (rowDots 0 (drawOnto D row f)))
+pub rising-drawOnto : (D : Distance) (row : Drawing) (f : Forest) → Row D (width row) (rowDots 0 row) → Rising 0 (leftContour (rowDots 0 row)) → Rising 0 (leftContour (rowDots 0 (drawOnto D row f)))
 rising-drawOnto D row nil R r = r
 rising-drawOnto D row (node v f g) R r =
     let b = drawOnto D none f in

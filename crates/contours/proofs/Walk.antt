@@ -8,6 +8,7 @@ use native.Mathlib.Nat.{le-trans, add-zero}
 use native.Mathlib.Omega.{arith}
 use lib.IntN.{ℤ, pos, _+ℤ_, _-ℤ_, +ℤ-idr, +ℤ-assoc}
 use lib.ListN.{length, length-append}
+use Rattle.distance.specs.Needed.{Distance}
 use Rattle.tree.proofs.Counting.{All, all-append, all-left, all-right, all-weaken}
 use Rattle.rule.specs.Drawing.{Dot, firstOf, lastOf, leftContour, rightContour}
 use Rattle.rule.specs.Join.{Meeting, above0, shortfall, meet, evenly, share, shares, total}
@@ -25,7 +26,7 @@ pub record Join : Type 0 where
   pub first : ℕ → ℕ
   pub n : ℕ
   pub ordered : Ordered first n
-  pub separation : ℕ
+  pub need : Distance
   pub f : ℕ
   pub c : ℕ
   pub end : ℕ
@@ -59,7 +60,7 @@ pendingIn J w p = pending (w .shift) (w .change) (J .end) p
 
 -- what the rule's walk meets
 abbrev pub allMet : Join → List Meeting
-allMet J = meet (J .separation) 0 (rightContour (J .row)) (leftContour (J .child))
+allMet J = meet (J .need) 0 (rightContour (J .row)) (leftContour (J .child))
 
 -- between two states of the fields each child of the row is moved by its shares of the meetings, and none from c on
 pub record Moves (J : Join) (before now : Fields) (ms : List Meeting) : Type 0 where
@@ -90,7 +91,7 @@ pub record Walking (J : Join) (before now : Fields) (s : Stand) : Type 0 where
   pub outer-left : s .outerLeft ≡ (firstOf x) .place
   pub outer-right : s .outerRight ≡ (lastOf y) .place
   pub moved : s .moved ≡ total met
-  pub whole : allMet J ≡ met ++ meet (J .separation) (s .moved) (rightContour (x ∷ xs)) (leftContour (y ∷ ys))
+  pub whole : allMet J ≡ met ++ meet (J .need) (s .moved) (rightContour (x ∷ xs)) (leftContour (y ∷ ys))
   pub moves : Moves J before now met
   pub passed : All (λ l. (lastOf l) .node < s .b) above-child
   pub marked : All (λ l. now .ancestor ((lastOf l) .node) ≡ pos (J .c)) above-child
@@ -138,9 +139,9 @@ module _ {J : Join} {old new : Fields} {i s z : ℕ} (T : Turned J old new i s z
 -- ---- a level
 
 module _ {J : Join} {before old : Fields} {s : Stand} (W : Walking J before old s) where
-  -- by how much the two nodes on this level are too close
+  -- by how much the two nodes on this level, b - 1 and b, are too close
   abbrev pub amount : ℕ
-  amount = shortfall (J .separation) (s .right) (s .left +ℤ pos (s .moved))
+  amount = shortfall (J .need (s .b - 1) (s .b)) (s .right) (s .left +ℤ pos (s .moved))
 
   -- the child that is met
   abbrev pub owner : ℕ
@@ -167,8 +168,10 @@ module _ {J : Join} {before old : Fields} {s : Stand} (W : Walking J before old 
         moved = s .moved + amount;
       }
 
-  pub whole-now : allMet J ≡ metNow ++ meet (J .separation) (s .moved + amount) (rightContour (W .xs)) (leftContour (W .ys))
-  whole-now = rw append-assoc (rw (← W .right-at, ← W .left-at) at (W .whole))
+  pub whole-now : allMet J ≡ metNow ++ meet (J .need) (s .moved + amount) (rightContour (W .xs)) (leftContour (W .ys))
+  whole-now =
+      let before : (lastOf (W .x)) .node ≡ s .b - 1 = omega (arith, W .runs-row .2) in
+      rw append-assoc (rw (before, W .runs-child .1, ← W .right-at, ← W .left-at) at (W .whole))
 
   pub moved-now : s .moved + amount ≡ total metNow
   moved-now = omega (arith, W .moved, total-append (W .met) (meeting ∷ []))
@@ -229,7 +232,7 @@ module _ {J : Join} {before old : Fields} {s : Stand} (W : Walking J before old 
           outer-left = step-to (W .outer-left) (lr .0);
           outer-right = step-to (W .outer-right) (rc .0);
           moved = moved-now;
-          whole = whole-now ∙ ap₂ (λ (u v : List (List Dot)). metNow ++ meet (J .separation) (s .moved + amount) (rightContour u) (leftContour v)) ex ey;
+          whole = whole-now ∙ ap₂ (λ (u v : List (List Dot)). metNow ++ meet (J .need) (s .moved + amount) (rightContour u) (leftContour v)) ex ey;
           moves = moves-now;
           passed = all-append _ (W .above-child) (W .y ∷ [])
               (all-weaken (λ l. (lastOf l) .node < s .b) (λ l. (lastOf l) .node < J .first (s .b)) (λ l h. omega (arith, reach, W .runs-child .0)) (W .above-child) (W .passed))

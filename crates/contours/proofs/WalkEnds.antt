@@ -57,7 +57,7 @@ module _ {J : Join} {before old new : Fields} {s : Stand} (W : Walking J before 
   shifted = shiftBy (pos moved′)
 
   -- what the last level that both have says of the end
-  ended : (left right : ℕ → ℤ) (d : ℕ) → meet (J .separation) moved′ (rightContour (W .xs)) (leftContour (W .ys)) ≡ []
+  ended : (left right : ℕ → ℤ) (d : ℕ) → meet (J .need) moved′ (rightContour (W .xs)) (leftContour (W .ys)) ≡ []
       → Marked (new .ancestor) (J .f) (J .end) (J .c) (W .xs) (W .ys) → Default (J .c) (J .default) (W .xs) (W .ys) d
       → Thread right (map shifted (rightContour (W .y ∷ W .ys))) (rightContour (W .x ∷ W .xs)) → Thread left (leftContour (W .x ∷ W .xs)) (map shifted (leftContour (W .y ∷ W .ys)))
       → Ended J before new left right moved′ d

@@ -21,6 +21,7 @@ pub extern "C" fn hiwenoka_check_table(table: &[u16], nodes: &mut u16) -> u16
 pub extern "C" fn hiwenoka_layout(
     table: &[u16],
     separation: u16,
+    widths: &[u16],
     places: &mut [i32],
     levels: &mut [u16],
     measured: &mut [u16],
@@ -31,9 +32,9 @@ pub extern "C" fn hiwenoka_layout(
     greatest: &mut i32,
     pairs: &mut u16,
 ) -> u16
-    ensures { λ r. ⌜ Layout (now (table .entry)) separation (slices (now (places .entry)) (now (levels .entry)) (now (measured .entry)) (now (work .entry))) (answer r (now (nodes .exit)) (now («level_count» .exit)) (now (least .exit)) (now (greatest .exit)) (now (pairs .exit))) (slices (now (places .exit)) (now (levels .exit)) (now (measured .exit)) (now (work .exit))) ⌝ }
+    ensures { λ r. ⌜ Layout (now (table .entry)) separation (now (widths .entry)) (slices (now (places .entry)) (now (levels .entry)) (now (measured .entry)) (now (work .entry))) (answer r (now (nodes .exit)) (now («level_count» .exit)) (now (least .exit)) (now (greatest .exit)) (now (pairs .exit))) (slices (now (places .exit)) (now (levels .exit)) (now (measured .exit)) (now (work .exit))) ⌝ }
 {
-    let drawn = layout::layout(table, separation, places, levels, measured, work);
+    let drawn = layout::layout(table, separation, widths, places, levels, measured, work);
     *nodes = drawn.nodes;
     *level_count = drawn.levels;
     let leftmost = drawn.least;
@@ -63,12 +64,13 @@ pub extern "C" fn hiwenoka_read_sheet(
     file: &[u8],
     table: &mut [u16],
     tapes: &mut [u16],
+    widths: &mut [u16],
     nodes: &mut u16,
     separation: &mut u16,
 ) -> u16
-    ensures { λ r. ⌜ SheetRead (now (file .entry)) (now (table .entry)) (now (tapes .entry)) (record { number = r; nodes = now (nodes .exit); separation = now (separation .exit) }) (now (table .exit)) (now (tapes .exit)) ⌝ }
+    ensures { λ r. ⌜ SheetRead (now (file .entry)) (now (table .entry)) (now (tapes .entry)) (now (widths .entry)) (record { number = r; nodes = now (nodes .exit); separation = now (separation .exit) }) (now (table .exit)) (now (tapes .exit)) (now (widths .exit)) ⌝ }
 {
-    let sheet = sheet::read_sheet(file, table, tapes);
+    let sheet = sheet::read_sheet(file, table, tapes, widths);
     *nodes = sheet.nodes;
     *separation = sheet.separation;
     sheet.number
@@ -93,12 +95,13 @@ pub extern "C" fn hiwenoka_write_sheet(
     table: &[u16],
     separation: u16,
     tapes: &[u16],
+    widths: &[u16],
     out: &mut [u8],
     bytes: &mut u16,
 ) -> u16
-    ensures { λ r. ⌜ SheetWritten (now (table .entry)) separation (now (tapes .entry)) (now (out .entry)) (record { number = r; bytes = now (bytes .exit) }) (now (out .exit)) ⌝ }
+    ensures { λ r. ⌜ SheetWritten (now (table .entry)) separation (now (tapes .entry)) (now (widths .entry)) (now (out .entry)) (record { number = r; bytes = now (bytes .exit) }) (now (out .exit)) ⌝ }
 {
-    let written = writer::write_sheet(table, separation, tapes, out);
+    let written = writer::write_sheet(table, separation, tapes, widths, out);
     *bytes = written.bytes;
     written.number
 }

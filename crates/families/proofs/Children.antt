@@ -4,6 +4,7 @@ use mathlib.Core.List.{List}
 use Prim.Native.Nat.{ℕ, suc, _-_, _≤_, _<_}
 use native.Mathlib.Omega.{arith}
 use lib.IntN.{ℤ}
+use Rattle.distance.specs.Needed.{Distance}
 use Rattle.tree.specs.Table.{nodes}
 use Rattle.tree.specs.Forest.{treeOf}
 use Rattle.tree.specs.WellFormed.{tableNumber}
@@ -16,7 +17,7 @@ use Rattle.level_order.proofs.Positions.{within}
 use Rattle.level_order.proofs.InOrder.{ordered}
 use Rattle.families.specs.Descent.{Reads, firstOfChildren, pastChildren}
 
-module _ (t : List ℕ) (accepted : tableNumber t ≡ 0) {work : List ℤ} (N : Numbered (treeOf t) (nodes t) work) (p : ℕ) (h : p < nodes t) where
+module _ (t : List ℕ) (accepted : tableNumber t ≡ 0) {D : Distance} {work : List ℤ} (N : Numbered (treeOf t) D (nodes t) work) (p : ℕ) (h : p < nodes t) where
   abbrev first : ℕ → ℕ
   first = firstAt (treeOf t)
 

@@ -16,7 +16,8 @@ use Rattle.rule.proofs.AtOnce.{total-append}
 use Rattle.rule.proofs.OnLevel.{OnLevel}
 use Rattle.rule.proofs.LevelEnds.{last-mem, first-mem}
 use Rattle.level_order.specs.Numbered.{Numbered}
-use Rattle.level_order.specs.Fields.{get, NODE, FIRST, COUNT, ANCESTOR, SHIFT, CHANGE}
+use Rattle.level_order.proofs.Fielded.{numbered-kept}
+use Rattle.level_order.specs.Fields.{get, ANCESTOR, SHIFT, CHANGE}
 use Rattle.contours.proofs.Runs.{Runs}
 use Rattle.contours.proofs.Walk.{Walking}
 use Rattle.contours.proofs.Walk as walk
@@ -62,15 +63,8 @@ module _ {K : Joining} {now : List ℤ} {k : ℕ} (kept : Kept K now k) where
   pub room : 16 * nodes (K .t) ≤ length now
   room = omega (arith, K .joins .rowed .numbered .size, kept .size)
 
-  pub numbered : Numbered (treeOf (K .t)) (nodes (K .t)) now
-  numbered =
-      let N = K .joins .rowed .numbered in
-      record {
-        size = room;
-        node = λ p h. kept .field NODE p (omega arith) ∙ N .node p h;
-        first = λ p h. kept .field FIRST p (omega arith) ∙ N .first p h;
-        count = λ p h. kept .field COUNT p (omega arith) ∙ N .count p h;
-      }
+  pub numbered : Numbered (treeOf (K .t)) (K .D) (nodes (K .t)) now
+  numbered = numbered-kept (K .joins .rowed .numbered) now room (λ g p h. kept .field g p (omega arith))
 
 -- ---- places are modest
 
@@ -81,7 +75,7 @@ module _ (K : Joining) where
 
   pub child-modest : (z : ℤ) (e : Dot) (l : ℕ) → z ≡ e .place → OnLevel e l (J K .child) → Modest z
   child-modest z e l q o =
-      omega (arith, ap natAbs q, start-at K, row-last-bound K, K .joins .given .high, alone-near (first K) (nodes (K .t)) (O K) (K .D) (few K) (K .joins .given .high) (width (row K)) (K .c) (startAt K) (small-n K) e l o)
+      omega (arith, ap natAbs q, start-at K, row-last-bound K, K .joins .given .high (K .c - 1) (K .c), alone-near (first K) (nodes (K .t)) (O K) (K .D) (few K) (K .joins .given .high) (width (row K)) (K .c) (startAt K) (small-n K) e l o)
 
 -- ---- a level
 
@@ -123,12 +117,12 @@ module _ {K : Joining} {now : List ℤ} {s : Stand} (C : Contour K now s) where
   pub last-child-position : s .e - 1 ≡ (lastOf (W .y)) .node
   last-child-position = omega (arith, W .runs-child .2)
 
-  pub moved-most : startAt K + C .k ≤ 1047552
+  pub moved-most : startAt K + C .k ≤ 1571328
   moved-most =
       omega (arith, next-bound K, next-last K, W .moved, ap total (W .whole), total-append (W .met) (rule.meet (K .D) (C .k) (rightContour (W .x ∷ W .xs)) (leftContour (W .y ∷ W .ys))))
 
   -- what can be done on the level, in the slice as it is or as the level leaves it
-  pub level : (work : List ℤ) (m : ℕ) → Kept K work m → startAt K + m ≤ 1047552 → (z : ℤ) → z ≡ pos m
+  pub level : (work : List ℤ) (m : ℕ) → Kept K work m → startAt K + m ≤ 1571328 → (z : ℤ) → z ≡ pos m
       → Level work (pushed s z) (K .f) (K .c) (K .default)
   level work m kept most z ez =
       record {
@@ -170,7 +164,7 @@ split-child i v x (at u y b a) = (_, refl)
 module _ (K : Joining) where
   open Joining K using (D, f, c, before)
 
-  walk-begins : Walking (J K) (F K) (fieldsOf (columnsOf before)) (standOf (topLevel before f c (pos D)) 0)
+  walk-begins : Walking (J K) (F K) (fieldsOf (columnsOf before)) (standOf (topLevel before f c) 0)
   walk-begins =
       let T = top-row (row K) (omega (arith, row-wide K, S K .some)) in
       let C = split-child (width (row K)) c (startAt K) (child K) in
@@ -207,7 +201,7 @@ module _ (K : Joining) where
         unmarked = λ z a. refl;
       }
 
-  pub contour-first : Contour K before (topLevel before f c (pos D))
+  pub contour-first : Contour K before (topLevel before f c)
   contour-first =
       record {
         k = 0;

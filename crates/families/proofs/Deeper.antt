@@ -62,7 +62,7 @@ module _ {K : Joining} {now : List ℤ} {s : Stand} (C : Contour K now s) where
   pub same-field : (g p : ℕ) → g < ANCESTOR → get after g p ≡ get (K .before) g p
   same-field = kept-next C .field
 
-  abbrev numbered-after : Numbered (treeOf (K .t)) (nodes (K .t)) after
+  abbrev numbered-after : Numbered (treeOf (K .t)) (K .D) (nodes (K .t)) after
   numbered-after = numbered (kept-next C)
 
   pub first-a : firstOfChildren after (s .a) ≡ first K (s .a)

@@ -7,12 +7,14 @@ use native.Mathlib.Nat.{le-refl, le-trans}
 use native.Mathlib.Omega.{arith}
 use lib.IntN.{ℤ, pos}
 use lib.ListN.{length, drop}
+use Rattle.distance.specs.Needed.{Distance}
 use Rattle.tree.specs.Table.{nodes}
 use Rattle.tree.specs.Forest.{treeOf}
 use Rattle.tree.proofs.Counting.{below-or-not, from-more}
 use Rattle.level_order.specs.LevelOrder.{firstAt}
-use Rattle.level_order.specs.Fields.{get, put, NODE, FIRST, COUNT, PLACE, LEFT, RIGHT, ANCESTOR, SHIFT, CHANGE}
+use Rattle.level_order.specs.Fields.{get, put, PLACE, LEFT, RIGHT, ANCESTOR, SHIFT, CHANGE}
 use Rattle.level_order.specs.Numbered.{Numbered, Fresh}
+use Rattle.level_order.proofs.Fielded.{numbered-kept}
 use Rattle.contours.specs.Rows.{Subtree}
 use Rattle.families.specs.Families.{Ready, FamilyPlaced, FamilyDrawn, FamiliesFrom}
 use Rattle.level_order.proofs.Positions.{Ordered, mono-le, within}
@@ -22,19 +24,19 @@ use Rattle.contours.proofs.OffsetsAll.{offsets-all}
 use Rattle.level_order.proofs.Cells.{put-length, put-same, put-field, put-position, put-rest}
 
 -- the families of the positions from p on are drawn, and those before it are as the numbering left them
-pub record DrawnFrom (t : List ℕ) (separation p : ℕ) (before work : List ℤ) : Type 0 where
+pub record DrawnFrom (t : List ℕ) (D : Distance) (p : ℕ) (before work : List ℤ) : Type 0 where
   pub inside : p ≤ nodes t
-  pub numbered : Numbered (treeOf t) (nodes t) work
+  pub numbered : Numbered (treeOf t) D (nodes t) work
   pub gathered : (g q : ℕ) → SHIFT ≤ g → g ≤ CHANGE → q < firstAt (treeOf t) p → get work g q ≡ pos 0
   pub own : (z : ℕ) → z < firstAt (treeOf t) p → get work ANCESTOR z ≡ pos z
   pub below : (z : ℕ) → firstAt (treeOf t) p ≤ z → z < nodes t → (k : ℕ) × (firstAt (treeOf t) p ≤ k) × (get work ANCESTOR z ≡ pos k)
-  pub subtrees : (q : ℕ) → p ≤ q → q < firstAt (treeOf t) p → Subtree (firstAt (treeOf t)) (nodes t) separation q (get work LEFT) (get work RIGHT)
-  pub placed : (r : ℕ) → p ≤ r → r < nodes t → FamilyPlaced t separation work r
+  pub subtrees : (q : ℕ) → p ≤ q → q < firstAt (treeOf t) p → Subtree (firstAt (treeOf t)) (nodes t) D q (get work LEFT) (get work RIGHT)
+  pub placed : (r : ℕ) → p ≤ r → r < nodes t → FamilyPlaced t D work r
   pub numbering : (g q : ℕ) → g < PLACE → get work g q ≡ get before g q
   pub size : length work ≡ length before
   pub rest : drop (16 * nodes t) work ≡ drop (16 * nodes t) before
 
-module _ (t : List ℕ) (D : ℕ) (O : Ordered (firstAt (treeOf t)) (nodes t)) where
+module _ (t : List ℕ) (D : Distance) (O : Ordered (firstAt (treeOf t)) (nodes t)) where
   abbrev first : ℕ → ℕ
   first = firstAt (treeOf t)
 
@@ -43,7 +45,7 @@ module _ (t : List ℕ) (D : ℕ) (O : Ordered (firstAt (treeOf t)) (nodes t)) w
 
   -- ---- at the start
 
-  pub families-start : {before : List ℤ} → Numbered (treeOf t) (nodes t) before → Fresh (nodes t) before → DrawnFrom t D (nodes t) before before
+  pub families-start : {before : List ℤ} → Numbered (treeOf t) D (nodes t) before → Fresh (nodes t) before → DrawnFrom t D (nodes t) before before
   families-start N F =
       record {
         inside = le-refl n;
@@ -137,13 +139,7 @@ module _ (t : List ℕ) (D : ℕ) (O : Ordered (firstAt (treeOf t)) (nodes t)) w
       families-turn =
           record {
             inside = omega (arith, known);
-            numbered =
-                record {
-                  size = omega (arith, F .size, S .numbered .size);
-                  node = λ p h. F .numbering NODE p (omega arith) ∙ S .numbered .node p h;
-                  first = λ p h. F .numbering FIRST p (omega arith) ∙ S .numbered .first p h;
-                  count = λ p h. F .numbering COUNT p (omega arith) ∙ S .numbered .count p h;
-                };
+            numbered = numbered-kept (S .numbered) after (omega (arith, F .size, S .numbered .size)) (F .numbering);
             gathered = λ g q a b l. F .gathered g q a b (inl l) ∙ S .gathered g q a b (omega (arith, l, up));
             own = λ z l. F .ancestor-before z l ∙ S .own z (omega (arith, l, up));
             below = now-below;

@@ -7,6 +7,7 @@ use native.Mathlib.Nat.{le-refl}
 use native.Mathlib.Omega.{arith}
 use lib.IntN.{ℤ, pos, _+ℤ_, _-ℤ_, natAbs}
 use lib.ListN.{length}
+use Rattle.distance.specs.Needed.{Distance}
 use Rattle.tree.specs.Table.{nodes}
 use Rattle.tree.specs.Forest.{Forest, treeOf}
 use Rattle.tree.proofs.Counting.{All}
@@ -17,8 +18,9 @@ use Rattle.rule.specs.Rule.{draw}
 use Rattle.tree.proofs.Joined.{Some}
 use Rattle.rule.proofs.Spacing.{row-drawOnto, row-none, alone-child}
 use Rattle.level_order.specs.LevelOrder.{firstAt}
-use Rattle.level_order.specs.Fields.{get, put, NODE, FIRST, COUNT, PLACE, LEFT, RIGHT, ANCESTOR, SHIFT, CHANGE}
+use Rattle.level_order.specs.Fields.{get, put, PLACE, LEFT, RIGHT, ANCESTOR, SHIFT, CHANGE}
 use Rattle.level_order.specs.Numbered.{Numbered}
+use Rattle.level_order.proofs.Fielded.{numbered-kept}
 use Rattle.contours.specs.Gather.{gather, pending}
 use Rattle.contours.specs.Contours.{LeftSteps, RightSteps}
 use Rattle.contours.specs.Rows.{Outside, Owned, Subtree, Row, rowDrawn, childrenDrawn}
@@ -45,7 +47,7 @@ gather-none shift change f end (suc m) s c h =
     (ap₂ _+ℤ_ (ap₂ _+ℤ_ (r .0) a) (ap₂ _+ℤ_ (r .1) b), ap₂ _+ℤ_ (r .1) b)
 
 -- a row of one child
-module _ (first : ℕ → ℕ) (n : ℕ) (O : Ordered first n) (D f : ℕ) (inside : f < n) where
+module _ (first : ℕ → ℕ) (n : ℕ) (O : Ordered first n) (D : Distance) (f : ℕ) (inside : f < n) where
   pub row-one : rowDrawn first n D f (suc f) ≡ alone f 0 (childrenDrawn first n D f)
   row-one =
       row-more first n O D f f (le-refl f) inside
@@ -85,7 +87,7 @@ module _ (first : ℕ → ℕ) (n : ℕ) (O : Ordered first n) (D f : ℕ) (insi
           owned-below (first f) (first (suc f)) deeper h (within first n O (suc f) inside) (runs-alone first n O D 0 f 0 inside .4) (C .some .1) (C .tags .1),
         )
 
-module _ {t : List ℕ} {D p : ℕ} {before : List ℤ} (G : Given t D) (R : Ready t D p before) where
+module _ {t : List ℕ} {D : Distance} {p : ℕ} {before : List ℤ} (G : Given t D) (R : Ready t D p before) where
   abbrev pub first : ℕ → ℕ
   first = firstAt (treeOf t)
 
@@ -123,14 +125,9 @@ module _ {t : List ℕ} {D p : ℕ} {before : List ℤ} (G : Given t D) (R : Rea
   pub other : (k q : ℕ) → k < 16 → (k ≡ PLACE → ⊥) → get work k q ≡ get before k q
   other k q h d = put-field before PLACE f (pos 0) (omega arith) k q h d
 
-  pub start-numbered : Numbered (treeOf t) n work
+  pub start-numbered : Numbered (treeOf t) D n work
   start-numbered =
-      record {
-        size = omega (arith, room, put-length before PLACE f (pos 0));
-        node = λ q h. other NODE q (omega arith) (λ e. omega (arith, e)) ∙ R .numbered .node q h;
-        first = λ q h. other FIRST q (omega arith) (λ e. omega (arith, e)) ∙ R .numbered .first q h;
-        count = λ q h. other COUNT q (omega arith) (λ e. omega (arith, e)) ∙ R .numbered .count q h;
-      }
+      numbered-kept (R .numbered) work (omega (arith, room, put-length before PLACE f (pos 0))) (λ g q h. other g q (omega arith) (λ e. omega (arith, e)))
 
   gathered : (g q : ℕ) → SHIFT ≤ g → g ≤ CHANGE → f ≤ q → q < end → get work g q ≡ pos 0
   gathered g q l r h k = other g q (omega arith) (λ e. omega (arith, e)) ∙ R .gathered g q l r h k

@@ -13,7 +13,8 @@ use Rattle.tree.specs.Table.{nodes}
 use Rattle.tree.proofs.Counting.{All, is-cases}
 use Rattle.rule.specs.Drawing.{Dot, lastPlace, lastOf}
 use Rattle.rule.specs.Join.{total}
-use Rattle.level_order.specs.Fields.{get, put, NODE, FIRST, COUNT, PLACE, LEFT, RIGHT, ANCESTOR, SHIFT, CHANGE}
+use Rattle.level_order.specs.Fields.{get, put, PLACE, LEFT, RIGHT, ANCESTOR, SHIFT, CHANGE}
+use Rattle.level_order.proofs.Fielded.{numbered-kept}
 use Rattle.level_order.proofs.Cells.{put-length, put-same, put-field, put-position, put-rest}
 use Rattle.contours.specs.Rows.{Outside, Owned, Row, rowDrawn}
 use Rattle.contours.specs.Contours.{LeftSteps, RightSteps}
@@ -160,18 +161,13 @@ module _ (K : Joining) (after u : List ℤ) (k d : ℕ) (kept : Kept K after k) 
       owned-row
 
   -- where the row ends now
-  grown : lastPlace (rowDrawn (first K) (nodes t) D f (suc c)) ≡ lastPlace (row K) + D + k
+  grown : lastPlace (rowDrawn (first K) (nodes t) D f (suc c)) ≡ lastPlace (row K) + D (c - 1) c + k
   grown = omega (arith, next-last K, start-at K, E .ended .total)
 
   rowed : Rowed t D f (suc c) end d final
   rowed =
       record {
-        numbered = record {
-          size = omega (arith, room, put-length u PLACE c v);
-          node = λ p h. same NODE p (omega arith) ∙ K .joins .rowed .numbered .node p h;
-          first = λ p h. same FIRST p (omega arith) ∙ K .joins .rowed .numbered .first p h;
-          count = λ p h. same COUNT p (omega arith) ∙ K .joins .rowed .numbered .count p h;
-        };
+        numbered = numbered-kept (K .joins .rowed .numbered) final (omega (arith, room, put-length u PLACE c v)) (λ g p h. same g p (omega arith));
         siblings = record { some = omega (arith, S K .some); more = K .joins .inside; fits = S K .fits; one-level = S K .one-level; alone = S K .alone };
         default-low = E .default-low;
         default-high = E .default-high;

@@ -1,10 +1,11 @@
 -- What the join of one child starts from: the row, the child, and why neither shares a node with the other nor lies far out.
 -- Assumes nothing.
-use mathlib.Core.Path.{_≡_, sym, ap, _∙_, subst}
+use mathlib.Core.Path.{_≡_, sym, ap, ap₂, _∙_, subst}
 use mathlib.Core.List.{List}
 use Prim.Native.Nat.{ℕ, suc, _+_, _-_, _≤_, _<_}
 use native.Mathlib.Omega.{arith}
 use lib.IntN.{ℤ, pos, _+ℤ_}
+use Rattle.distance.specs.Needed.{Distance}
 use Rattle.tree.specs.Table.{nodes}
 use Rattle.tree.specs.Forest.{Forest, nil, node, treeOf, preorder}
 use Rattle.tree.specs.Numbers.{count}
@@ -19,9 +20,10 @@ use Rattle.rule.proofs.Spacing.{Row as RuleRow, Child, row-drawOnto, row-none}
 use Rattle.rule.proofs.OnLevel.{OnLevel}
 use Rattle.rule.proofs.Tight.{on-names}
 use Rattle.level_order.specs.LevelOrder.{firstAt}
-use Rattle.level_order.specs.Fields.{get, PLACE, LEFT, RIGHT}
-use Rattle.level_order.proofs.Positions.{Ordered, run, family, run-node, run-nil}
+use Rattle.level_order.specs.Fields.{get, NEED, PLACE, LEFT, RIGHT}
+use Rattle.level_order.proofs.Positions.{Ordered, run, family, run-node, run-nil, laid-run}
 use Rattle.level_order.proofs.InOrder.{ordered}
+use Rattle.level_order.proofs.Fielded.{needed-at}
 use Rattle.level_order.proofs.Occurs.{times-cut}
 use Rattle.contours.specs.Contours.{LeftSteps, RightSteps}
 use Rattle.contours.specs.Rows.{rowDrawn, childrenDrawn}
@@ -33,7 +35,7 @@ use Rattle.contours.proofs.RowNext.{fieldsOf, the-width, rule-row, rule-child, 
 use Rattle.contours.proofs.Bounds.{row-bound}
 use Rattle.families.specs.Joining.{columnsOf, occurs, Given, Siblings, Rowed, Waiting}
 
-pub record Joins (t : List ℕ) (D f c end default : ℕ) (before : List ℤ) : Type 0 where
+pub record Joins (t : List ℕ) (D : Distance) (f c end default : ℕ) (before : List ℤ) : Type 0 where
   pub given : Given t D
   pub rowed : Rowed t D f c end default before
   pub waiting : Waiting t D f end c before
@@ -42,7 +44,7 @@ pub record Joins (t : List ℕ) (D f c end default : ℕ) (before : List ℤ) : 
 -- the same, with what it speaks of
 pub record Joining : Type 0 where
   pub t : List ℕ
-  pub D : ℕ
+  pub D : Distance
   pub f : ℕ
   pub c : ℕ
   pub end : ℕ
@@ -50,7 +52,7 @@ pub record Joining : Type 0 where
   pub before : List ℤ
   pub joins : Joins t D f c end default before
 
-abbrev pub joining : {t : List ℕ} {D f c end default : ℕ} {before : List ℤ} → Joins t D f c end default before → Joining
+abbrev pub joining : {t : List ℕ} {D : Distance} {f c end default : ℕ} {before : List ℤ} → Joins t D f c end default before → Joining
 joining {t} {D} {f} {c} {end} {default} {before} H =
     record { t = t; D = D; f = f; c = c; end = end; default = default; before = before; joins = H }
 
@@ -150,13 +152,18 @@ module _ (K : Joining) where
       K .joins .rowed .row .settled (c - 1) (omega (arith, S .some))
       ∙ ap pos (sym (last-place row (c - 1 - f) (omega (arith, row-wide, S .some))))
 
-  pub start-at : startAt ≡ lastPlace row + D
+  pub start-at : startAt ≡ lastPlace row + D (c - 1) c
   start-at =
-      start-place D row c (c - f - 1) (omega (arith, row-wide, S .some))
-      ∙ ap (λ (k : ℕ). k + D) (sym (last-place row (c - f - 1) (omega (arith, row-wide, S .some))))
+      start-place D first row f c c (c - f - 1) (rw names-draw (laid-run first n O f c (omega (arith, S .some)) (omega (arith, small-n))))
+      (omega (arith, row-wide, S .some))
+      ∙ ap (λ (k : ℕ). k + D (c - 1) c) (sym (last-place row (c - f - 1) (omega (arith, row-wide, S .some))))
 
-  pub start-here : get before PLACE (c - 1) +ℤ pos D ≡ pos startAt
-  start-here = ap (λ (z : ℤ). z +ℤ pos D) last-at ∙ ap pos (sym start-at)
+  -- what the child needs from the one before it
+  pub need-here : get before NEED c ≡ pos (D (c - 1) c)
+  need-here = needed-at (K .joins .rowed .numbered) c (omega (arith, S .some)) small-n
+
+  pub start-here : get before PLACE (c - 1) +ℤ get before NEED c ≡ pos startAt
+  start-here = ap₂ _+ℤ_ last-at need-here ∙ ap pos (sym start-at)
 
   pub next-last : lastPlace (rowDrawn first n D f (suc c)) ≡ startAt + total (meetings D row c child)
   next-last =
@@ -165,8 +172,8 @@ module _ (K : Joining) where
       ∙ ap (placeAt (rule.join D row c child)) (sym row-wide)
       ∙ join-new D row c child
 
-  pub next-bound : lastPlace (rowDrawn first n D f (suc c)) ≤ 1047552
+  pub next-bound : lastPlace (rowDrawn first n D f (suc c)) ≤ 1571328
   next-bound = row-bound first n O D few (K .joins .given .high) f (suc c) (omega (arith, S .some)) small-n (omega (arith, S .one-level, K .joins .inside))
 
-  pub row-last-bound : lastPlace row ≤ 1047552
+  pub row-last-bound : lastPlace row ≤ 1571328
   row-last-bound = row-bound first n O D few (K .joins .given .high) f c (S .some) (omega (arith, small-n)) (omega (arith, S .one-level, K .joins .inside))

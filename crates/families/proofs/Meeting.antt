@@ -1,5 +1,5 @@
 -- One level of the walk over the working slice: the meeting is gathered, and the child's last node is marked. Assumes nothing.
-use mathlib.Core.Path.{_≡_, refl, sym, ap, _∙_, subst, subst₂, fun-ext}
+use mathlib.Core.Path.{_≡_, refl, sym, ap, ap₂, _∙_, subst, subst₂, fun-ext}
 use mathlib.Core.Logic.{_⊎_, inl, inr, ⊎-elim}
 use mathlib.Core.Bool.{Bool, cond}
 use mathlib.Core.List.{List, [], _∷_, _++_}
@@ -16,7 +16,8 @@ use Rattle.rule.specs.Join as rule
 use Rattle.rule.proofs.Signed.{parts-add, parts-sub, parts-eq}
 use Rattle.rule.proofs.LevelEnds.{last-in}
 use Rattle.rule.proofs.AtOnce.{total-append}
-use Rattle.level_order.specs.Fields.{get, ANCESTOR, SHIFT, CHANGE}
+use Rattle.level_order.specs.Fields.{get, NEED, ANCESTOR, SHIFT, CHANGE}
+use Rattle.level_order.proofs.Fielded.{needed-at}
 use Rattle.level_order.proofs.Cells.{put-length, put-same, put-field, put-position, put-rest}
 use Rattle.contours.specs.Rows.{Outside, Owned}
 use Rattle.contours.proofs.Gathered.{Met}
@@ -30,7 +31,7 @@ use Rattle.families.specs.Joining.{columnsOf, occurs}
 use Rattle.families.proofs.OwnerOf.{owner-child, owner-default}
 use Rattle.shifts.proofs.Shared.{shared-length, shared-position, shared-field, shared-rest, shared-met, shared-grown}
 use Rattle.families.proofs.Joining.{Joining, S, row, startAt, J, F, row-wide, spaced-row, small-n, apart, row-on, child-on, next-last, next-bound}
-use Rattle.families.proofs.Contour.{Kept, Contour, standOf, room, last-row-on, last-child-on, e-few, last-position, last-child-position}
+use Rattle.families.proofs.Contour.{Kept, Contour, standOf, room, numbered, last-row-on, last-child-on, b-few, e-few, last-position, last-child-position}
 
 -- the owner on one of the levels
 owned-at : (ancestor : ℕ → ℤ) (f end default : ℕ) (us : List (List Dot)) (x : List Dot) (xs : List (List Dot)) → Owned ancestor f end default (us ++ (x ∷ xs))
@@ -49,7 +50,7 @@ module _ {K : Joining} {now : List ℤ} {s : Stand} (C : Contour K now s) where
 
   -- by how much the child moves, and how far it has then been moved
   abbrev pub close : ℕ
-  close = tooClose s D
+  close = tooClose now s
 
   abbrev pub moved : ℕ
   moved = C .k + close
@@ -63,7 +64,7 @@ module _ {K : Joining} {now : List ℤ} {s : Stand} (C : Contour K now s) where
   mid = noted now s f c default close
 
   abbrev pub next : List ℤ
-  next = worked now s f c default D
+  next = worked now s f c default
 
   abbrev pub new : Fields
   new = fieldsOf (columnsOf next)
@@ -141,16 +142,21 @@ module _ {K : Joining} {now : List ℤ} {s : Stand} (C : Contour K now s) where
       put-position mid ANCESTOR (s .e - 1) (pos c) (omega arith) ANCESTOR w (omega arith) (λ e. d (e ∙ last-child-position C))
       ∙ mid-field ANCESTOR w (omega arith)
 
+  -- what the node at b needs from the one at b - 1
+  pub need-now : get now NEED (s .b) ≡ pos (D (s .b - 1) (s .b))
+  need-now = needed-at (numbered (C .kept)) (s .b) (omega (arith, W .runs-row .0)) (b-few C)
+
   same-close : close ≡ amount W
   same-close =
-      ap (λ (z : ℤ). above0 ((s .right +ℤ pos D) -ℤ (s .left +ℤ z))) (C .moved)
-      ∙ ap above0 (parts-eq ((s .right +ℤ pos D) -ℤ (s .left +ℤ pos (C .k))) (pos D -ℤ ((s .left +ℤ pos (C .k)) -ℤ s .right))
+      let d = D (s .b - 1) (s .b) in
+      ap₂ (λ (y z : ℤ). above0 ((s .right +ℤ y) -ℤ (s .left +ℤ z))) need-now (C .moved)
+      ∙ ap above0 (parts-eq ((s .right +ℤ pos d) -ℤ (s .left +ℤ pos (C .k))) (pos d -ℤ ((s .left +ℤ pos (C .k)) -ℤ s .right))
       (omega (
         arith,
-        parts-add (s .right) (pos D),
-        parts-sub (s .right +ℤ pos D) (s .left +ℤ pos (C .k)),
+        parts-add (s .right) (pos d),
+        parts-sub (s .right +ℤ pos d) (s .left +ℤ pos (C .k)),
         parts-sub (s .left +ℤ pos (C .k)) (s .right),
-        parts-sub (pos D) ((s .left +ℤ pos (C .k)) -ℤ s .right),
+        parts-sub (pos d) ((s .left +ℤ pos (C .k)) -ℤ s .right),
       )))
 
   pub moved-same : C .k + amount W ≡ moved
@@ -176,7 +182,7 @@ module _ {K : Joining} {now : List ℤ} {s : Stand} (C : Contour K now s) where
       same-change = fun-ext (λ p. next-field CHANGE p (omega arith) (λ e. omega arith))
 
   -- the child ends before the widest row does
-  pub moved-bound : startAt K + moved ≤ 1047552
+  pub moved-bound : startAt K + moved ≤ 1571328
   moved-bound =
       omega (
         arith,

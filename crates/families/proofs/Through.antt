@@ -5,6 +5,7 @@ use mathlib.Core.List.{List}
 use Prim.Native.Nat.{ℕ, suc, _+_, _≤_, _<_}
 use native.Mathlib.Omega.{arith}
 use lib.IntN.{ℤ, pos}
+use Rattle.distance.specs.Needed.{Distance}
 use Rattle.tree.specs.Table.{nodes}
 use Rattle.tree.specs.Forest.{treeOf}
 use Rattle.level_order.specs.LevelOrder.{firstAt}
@@ -61,7 +62,7 @@ module _ (t : List ℕ) (O : Ordered (firstAt (treeOf t)) (nodes t)) (f c : ℕ)
           u
 
   -- the subtree that is joined next has not been touched
-  pub waiting-kept : (D end : ℕ) (before after : List ℤ) → c < end → Siblings t f c end → Through t f c before after → Waiting t D f end c before → Waiting t D f end c after
+  pub waiting-kept : (D : Distance) (end : ℕ) (before after : List ℤ) → c < end → Siblings t f c end → Through t f c before after → Waiting t D f end c before → Waiting t D f end c after
   waiting-kept D end before after h S T W =
       record {
         subtree =

@@ -7,7 +7,7 @@ use lib.Dec.{eqb, ltb}
 use lib.IntN.{ℤ, pos, negsuc, natAbs, _+ℤ_, _-ℤ_}
 use lib.ListN.{length}
 use Rattle.rule.specs.Join.{above0}
-use Rattle.level_order.specs.Fields.{cell, get, put, FIRST, COUNT, PLACE, LEFT, RIGHT, ANCESTOR, SHIFT, CHANGE}
+use Rattle.level_order.specs.Fields.{cell, get, put, FIRST, COUNT, NEED, PLACE, LEFT, RIGHT, ANCESTOR, SHIFT, CHANGE}
 use Rattle.shifts.specs.Shifts.{shared}
 use Rattle.families.specs.declared.join.Stand.{Stand}
 
@@ -29,17 +29,17 @@ Modest z = natAbs z ≤ 4194304
 
 -- ---- where the walk stands
 
--- the top level: the last child joined, and the new child, which starts at the separation after it
-abbrev pub topLevel : List ℤ → ℕ → ℕ → ℤ → Stand
-topLevel work f c separation =
+-- the top level: the last child joined, and the new child, which starts after it at the distance that it needs
+abbrev pub topLevel : List ℤ → ℕ → ℕ → Stand
+topLevel work f c =
     record {
       a = f;
       b = c;
       e = c + 1;
       right = get work PLACE (c - 1);
-      left = get work PLACE (c - 1) +ℤ separation;
+      left = get work PLACE (c - 1) +ℤ get work NEED c;
       «outer_left» = get work PLACE f;
-      «outer_right» = get work PLACE (c - 1) +ℤ separation;
+      «outer_right» = get work PLACE (c - 1) +ℤ get work NEED c;
       moved = pos 0;
     }
 
@@ -91,16 +91,16 @@ ownerOf (negsuc k) f c default = default
 -- ---- one level
 
 -- by how much the nodes at b - 1 and b are too close
-abbrev pub tooClose : Stand → ℕ → ℕ
-tooClose s separation = above0 ((s .right +ℤ pos separation) -ℤ (s .left +ℤ s .moved))
+abbrev pub tooClose : List ℤ → Stand → ℕ
+tooClose work s = above0 ((s .right +ℤ get work NEED (s .b)) -ℤ (s .left +ℤ s .moved))
 
 -- a conflict is gathered
 abbrev pub noted : List ℤ → Stand → ℕ → ℕ → ℕ → ℕ → List ℤ
 noted work s f c default amount = cond (eqb amount 0) work (shared work (ownerOf (get work ANCESTOR (s .b - 1)) f c default) c amount)
 
 -- and the child's last node on the level is marked
-abbrev pub worked : List ℤ → Stand → ℕ → ℕ → ℕ → ℕ → List ℤ
-worked work s f c default separation = put (noted work s f c default (tooClose s separation)) ANCESTOR (s .e - 1) (pos c)
+abbrev pub worked : List ℤ → Stand → ℕ → ℕ → ℕ → List ℤ
+worked work s f c default = put (noted work s f c default (tooClose work s)) ANCESTOR (s .e - 1) (pos c)
 
 -- ---- the end of the walk
 

@@ -5,6 +5,7 @@ use mathlib.Core.Logic.{_⊎_}
 use mathlib.Core.List.{List}
 use lib.IntN.{ℤ, pos, _-ℤ_}
 use lib.ListN.{length, drop}
+use Rattle.distance.specs.Needed.{Distance}
 use Rattle.tree.specs.Table.{nodes}
 use Rattle.tree.specs.Forest.{Forest, treeOf}
 use Rattle.rule.specs.Drawing.{placeAt, middle}
@@ -18,9 +19,9 @@ use Rattle.families.specs.Joining.{occurs, Rowed, Waiting}
 -- ---- the joins of one family
 
 -- the first child stands, and the others wait
-pub record Begun (t : List ℕ) (separation f end : ℕ) (work : List ℤ) : Type 0 where
-  pub rowed : Rowed t separation f (suc f) end f work
-  pub others : (q : ℕ) → f < q → q < end → Waiting t separation f end q work
+pub record Begun (t : List ℕ) (D : Distance) (f end : ℕ) (work : List ℤ) : Type 0 where
+  pub rowed : Rowed t D f (suc f) end f work
+  pub others : (q : ℕ) → f < q → q < end → Waiting t D f end q work
 
 -- what the joins of the children past f and before c leave as it was
 pub record Through (t : List ℕ) (f c : ℕ) (before after : List ℤ) : Type 0 where
@@ -33,35 +34,35 @@ pub record Through (t : List ℕ) (f c : ℕ) (before after : List ℤ) : Type 0
   pub gathered : (g p : ℕ) → SHIFT ≤ g → g ≤ CHANGE → (p < f) ⊎ (c ≤ p) → get after g p ≡ get before g p
 
 -- all the children are joined
-pub record AllJoined (t : List ℕ) (separation f end : ℕ) (before after : List ℤ) : Type 0 where
+pub record AllJoined (t : List ℕ) (D : Distance) (f end : ℕ) (before after : List ℤ) : Type 0 where
   pub default : ℕ
-  pub rowed : Rowed t separation f end end default after
+  pub rowed : Rowed t D f end end default after
   pub through : Through t f end before after
 
 -- ---- one family
 
 -- position p has children, and their subtrees are drawn
-pub record Ready (t : List ℕ) (separation p : ℕ) (work : List ℤ) : Type 0 where
-  pub numbered : Numbered (treeOf t) (nodes t) work
+pub record Ready (t : List ℕ) (D : Distance) (p : ℕ) (work : List ℤ) : Type 0 where
+  pub numbered : Numbered (treeOf t) D (nodes t) work
   pub inside : p < nodes t
   pub some : firstAt (treeOf t) p < firstAt (treeOf t) (suc p)
-  pub subtrees : (q : ℕ) → firstAt (treeOf t) p ≤ q → q < firstAt (treeOf t) (suc p) → Subtree (firstAt (treeOf t)) (nodes t) separation q (get work LEFT) (get work RIGHT)
+  pub subtrees : (q : ℕ) → firstAt (treeOf t) p ≤ q → q < firstAt (treeOf t) (suc p) → Subtree (firstAt (treeOf t)) (nodes t) D q (get work LEFT) (get work RIGHT)
   pub gathered : (g q : ℕ) → SHIFT ≤ g → g ≤ CHANGE → firstAt (treeOf t) p ≤ q → q < firstAt (treeOf t) (suc p) → get work g q ≡ pos 0
   pub own : (z : ℕ) → z < firstAt (treeOf t) (suc p) → get work ANCESTOR z ≡ pos z
   pub below : (z : ℕ) → firstAt (treeOf t) (suc p) ≤ z → z < nodes t → (k : ℕ) × (firstAt (treeOf t) (suc p) ≤ k) × (get work ANCESTOR z ≡ pos k)
 
 -- the children of position p have their offsets
-abbrev pub FamilyPlaced : List ℕ → ℕ → List ℤ → ℕ → Type 0
-FamilyPlaced t separation work p =
+abbrev pub FamilyPlaced : List ℕ → Distance → List ℤ → ℕ → Type 0
+FamilyPlaced t D work p =
     (q : ℕ) → firstAt (treeOf t) p ≤ q → q < firstAt (treeOf t) (suc p)
     → get work PLACE q
-    ≡ pos (placeAt (childrenDrawn (firstAt (treeOf t)) (nodes t) separation p) (q - firstAt (treeOf t) p))
-    -ℤ pos (middle (childrenDrawn (firstAt (treeOf t)) (nodes t) separation p))
+    ≡ pos (placeAt (childrenDrawn (firstAt (treeOf t)) (nodes t) D p) (q - firstAt (treeOf t) p))
+    -ℤ pos (middle (childrenDrawn (firstAt (treeOf t)) (nodes t) D p))
 
 -- the family of position p is drawn
-pub record FamilyDrawn (t : List ℕ) (separation p : ℕ) (before after : List ℤ) : Type 0 where
-  pub subtree : Subtree (firstAt (treeOf t)) (nodes t) separation p (get after LEFT) (get after RIGHT)
-  pub placed : FamilyPlaced t separation after p
+pub record FamilyDrawn (t : List ℕ) (D : Distance) (p : ℕ) (before after : List ℤ) : Type 0 where
+  pub subtree : Subtree (firstAt (treeOf t)) (nodes t) D p (get after LEFT) (get after RIGHT)
+  pub placed : FamilyPlaced t D after p
   pub size : length after ≡ length before
   pub rest : drop (16 * nodes t) after ≡ drop (16 * nodes t) before
   pub numbering : (g q : ℕ) → g < PLACE → get after g q ≡ get before g q
@@ -74,12 +75,12 @@ pub record FamilyDrawn (t : List ℕ) (separation p : ℕ) (before after : List 
 -- ---- all families
 
 -- every position but the root's has its offset from its parent in the drawing of the tree of positions; the root's own is its place 0
-abbrev pub Placed : ℕ → Forest → ℕ → List ℤ → Type 0
-Placed separation f n work = Offsets (get work PLACE) 0 (draw separation (positionTree f n))
+abbrev pub Placed : Distance → Forest → ℕ → List ℤ → Type 0
+Placed D f n work = Offsets (get work PLACE) 0 (draw D (positionTree f n))
 
 -- every family is drawn
-pub record FamiliesFrom (t : List ℕ) (separation : ℕ) (before after : List ℤ) : Type 0 where
-  pub placed : Placed separation (treeOf t) (nodes t) after
+pub record FamiliesFrom (t : List ℕ) (D : Distance) (before after : List ℤ) : Type 0 where
+  pub placed : Placed D (treeOf t) (nodes t) after
   pub numbering : (g p : ℕ) → g < PLACE → get after g p ≡ get before g p
   pub size : length after ≡ length before
   pub rest : drop (16 * nodes t) after ≡ drop (16 * nodes t) before

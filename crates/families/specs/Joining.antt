@@ -5,6 +5,7 @@ use mathlib.Core.Logic.{_⊎_}
 use mathlib.Core.List.{List}
 use lib.IntN.{ℤ, pos, natAbs}
 use lib.ListN.{length, drop}
+use Rattle.distance.specs.Needed.{Distance}
 use Rattle.tree.specs.Numbers.{count}
 use Rattle.tree.specs.Table.{nodes}
 use Rattle.tree.specs.Forest.{treeOf, preorder}
@@ -31,11 +32,10 @@ columnsOf work =
 abbrev pub occurs : List ℕ → ℕ → ℕ → ℕ → ℕ
 occurs t a b z = count z (preorder (positions (nodes t) (firstAt (treeOf t)) a b))
 
--- the table and the separation
-pub record Given (t : List ℕ) (separation : ℕ) : Type 0 where
+-- the table, and what two of its positions need at most
+pub record Given (t : List ℕ) (D : Distance) : Type 0 where
   pub accepted : tableNumber t ≡ 0
-  pub low : 1 ≤ separation
-  pub high : separation ≤ 1024
+  pub high : (p q : ℕ) → D p q ≤ 1536
 
 -- children f to end of one node, of which those before c are joined
 pub record Siblings (t : List ℕ) (f c end : ℕ) : Type 0 where
@@ -46,24 +46,24 @@ pub record Siblings (t : List ℕ) (f c end : ℕ) : Type 0 where
   pub alone : (z : ℕ) → occurs t f end z ≤ 1
 
 -- what has been gathered is no more than the row is wide
-abbrev pub Small : List ℕ → ℕ → ℕ → ℕ → ℕ → List ℤ → Type 0
-Small t separation f c end work =
-    (g p : ℕ) → SHIFT ≤ g → g ≤ CHANGE → f ≤ p → p < end → natAbs (get work g p) ≤ lastPlace (rowDrawn (firstAt (treeOf t)) (nodes t) separation f c)
+abbrev pub Small : List ℕ → Distance → ℕ → ℕ → ℕ → List ℤ → Type 0
+Small t D f c end work =
+    (g p : ℕ) → SHIFT ≤ g → g ≤ CHANGE → f ≤ p → p < end → natAbs (get work g p) ≤ lastPlace (rowDrawn (firstAt (treeOf t)) (nodes t) D f c)
 
 -- the row from f to c
-pub record Rowed (t : List ℕ) (separation f c end default : ℕ) (work : List ℤ) : Type 0 where
-  pub numbered : Numbered (treeOf t) (nodes t) work
+pub record Rowed (t : List ℕ) (D : Distance) (f c end default : ℕ) (work : List ℤ) : Type 0 where
+  pub numbered : Numbered (treeOf t) D (nodes t) work
   pub siblings : Siblings t f c end
   pub default-low : f ≤ default
   pub default-high : default < c
-  pub row : Row (firstAt (treeOf t)) (nodes t) separation f c end default (columnsOf work)
+  pub row : Row (firstAt (treeOf t)) (nodes t) D f c end default (columnsOf work)
   pub first-place : get work PLACE f ≡ pos 0
-  pub stood : (p : ℕ) → f ≤ p → p < c → (k : ℕ) × (k ≤ lastPlace (rowDrawn (firstAt (treeOf t)) (nodes t) separation f c)) × (get work PLACE p ≡ pos k)
-  pub small : Small t separation f c end work
+  pub stood : (p : ℕ) → f ≤ p → p < c → (k : ℕ) × (k ≤ lastPlace (rowDrawn (firstAt (treeOf t)) (nodes t) D f c)) × (get work PLACE p ≡ pos k)
+  pub small : Small t D f c end work
 
 -- the subtree at position c, which is not joined yet: its contours are stored, and the ancestors below it are out of date
-pub record Waiting (t : List ℕ) (separation f end c : ℕ) (work : List ℤ) : Type 0 where
-  pub subtree : Subtree (firstAt (treeOf t)) (nodes t) separation c (get work LEFT) (get work RIGHT)
+pub record Waiting (t : List ℕ) (D : Distance) (f end c : ℕ) (work : List ℤ) : Type 0 where
+  pub subtree : Subtree (firstAt (treeOf t)) (nodes t) D c (get work LEFT) (get work RIGHT)
   pub stale : (z : ℕ) → 1 ≤ occurs t (firstAt (treeOf t) c) (firstAt (treeOf t) (suc c)) z → Outside f end (get work ANCESTOR z)
 
 -- what the join of child c leaves as it was; the fields before PLACE are those of the numbering
@@ -76,6 +76,6 @@ pub record Untouched (t : List ℕ) (f c : ℕ) (before after : List ℤ) : Type
   pub ancestor : (z : ℕ) → (get after ANCESTOR z ≡ get before ANCESTOR z) ⊎ ((get after ANCESTOR z ≡ pos c) × (1 ≤ occurs t f (suc c) z))
   pub gathered : (g p : ℕ) → SHIFT ≤ g → g ≤ CHANGE → (p < f) ⊎ (c < p) → get after g p ≡ get before g p
 
-pub record Joined (t : List ℕ) (separation f c end default : ℕ) (before after : List ℤ) : Type 0 where
-  pub rowed : Rowed t separation f (suc c) end default after
+pub record Joined (t : List ℕ) (D : Distance) (f c end default : ℕ) (before after : List ℤ) : Type 0 where
+  pub rowed : Rowed t D f (suc c) end default after
   pub untouched : Untouched t f c before after

@@ -6,6 +6,7 @@ ghost use lib.IntN.{pos};
 ghost use lib.ListN.{length};
 ghost use Rattle.rule.specs.Join.{above0};
 ghost use Rattle.level_order.specs.Fields;
+ghost use Rattle.level_order.specs.Numbered.{apart};
 ghost use Rattle.families.specs.Descent.{Reads, Modest, Looked, Level, Threads, Steps, topLevel, lower, tooClose, worked, isEnd, threaded, newDefault};
 ghost use Rattle.families.specs.Joining.{Given, Rowed, Waiting, Joined};
 use super::owner::owner;
@@ -13,6 +14,7 @@ use level_order::field::ANCESTOR;
 use level_order::field::COUNT;
 use level_order::field::FIRST;
 use level_order::field::LEFT;
+use level_order::field::NEED;
 use level_order::field::PLACE;
 use level_order::field::RIGHT;
 use level_order::field::get;
@@ -48,14 +50,14 @@ pub fn past(work: &[i32], p: usize) -> usize
     position(work, p, FIRST) + position(work, p, COUNT)
 }
 
-// The top level: the last child joined and the new child, which starts at the separation after it.
-fn begin(work: &[i32], f: usize, c: usize, separation: i32) -> Stand
-    requires { ⌜ (f < c) × (c < 1024) × (16 * c ≤ length (now work)) ⌝ }
-    requires { ⌜ (Modest (Fields.get (now work) Fields.PLACE (c - 1))) × (Modest separation) ⌝ }
-    ensures { λ r. ⌜ r ≡ topLevel (now (work .entry)) f c separation ⌝ }
+// The top level: the last child joined and the new child, which starts after it at the distance that it needs.
+fn begin(work: &[i32], f: usize, c: usize) -> Stand
+    requires { ⌜ (f < c) × (c < 1024) × (16 * (c + 1) ≤ length (now work)) ⌝ }
+    requires { ⌜ (Modest (Fields.get (now work) Fields.PLACE (c - 1))) × (Modest (Fields.get (now work) Fields.NEED c)) ⌝ }
+    ensures { λ r. ⌜ r ≡ topLevel (now (work .entry)) f c ⌝ }
 {
     let before = get(work, c - 1, PLACE);
-    let start = before + separation;
+    let start = before + get(work, c, NEED);
     Stand {
         a: f,
         b: c,
@@ -69,14 +71,14 @@ fn begin(work: &[i32], f: usize, c: usize, separation: i32) -> Stand
 }
 
 // By how much the child has to move on this level; the children between it and the one it meets get their shares.
-fn meet(work: &mut [i32], s: Stand, f: usize, c: usize, default: usize, separation: u16) -> i32
+fn meet(work: &mut [i32], s: Stand, f: usize, c: usize, default: usize) -> i32
     requires { ⌜ Level (now work) s f c default ⌝ }
-    requires { ⌜ (separation ≤ 1024) × (tooClose s separation ≤ 4194304) ⌝ }
-    ensures { λ r. ⌜ (r ≡ pos (tooClose s separation)) × (now (work .exit) ≡ worked (now (work .entry)) s f c default separation) ⌝ }
+    requires { ⌜ (Modest (Fields.get (now work) Fields.NEED (s .b))) × (tooClose (now work) s ≤ 4194304) ⌝ }
+    ensures { λ r. ⌜ (r ≡ pos (tooClose (now (work .entry)) s)) × (now (work .exit) ≡ worked (now (work .entry)) s f c default) ⌝ }
 {
     let b = s.b;
     let e = s.e;
-    let close = s.right + separation as i32 - (s.left + s.moved);
+    let close = s.right + get(work, b, NEED) - (s.left + s.moved);
     if close <= 0 {
         put(work, e - 1, ANCESTOR, c as i32);
         return 0;
@@ -145,25 +147,27 @@ fn thread(work: &mut [i32], s: Stand, f: usize, c: usize, default: usize) -> usi
     default
 }
 
-// Joins the child at position c to those from f to c, of the children from f to end, and says which child is the default now.
+// Joins the child at position c to those from f to c, of the children from f to end, and says which child is the default now. Table,
+// separation and half-widths stand in the contract alone.
 pub fn join(
     table: &[u16],
+    separation: u16,
+    widths: &[u16],
     work: &mut [i32],
     f: usize,
     c: usize,
     end: usize,
     default: usize,
-    separation: u16,
 ) -> usize
-    requires { ⌜ Given (now table) separation ⌝ }
-    requires { ⌜ Rowed (now table) separation f c end default (now work) ⌝ }
-    requires { ⌜ (Waiting (now table) separation f end c (now work)) × (c < end) ⌝ }
-    ensures { λ r. ⌜ Joined (now (table .entry)) separation f c end r (now (work .entry)) (now (work .exit)) ⌝ }
+    requires { ⌜ Given (now table) (apart (now table) separation (now widths)) ⌝ }
+    requires { ⌜ Rowed (now table) (apart (now table) separation (now widths)) f c end default (now work) ⌝ }
+    requires { ⌜ (Waiting (now table) (apart (now table) separation (now widths)) f end c (now work)) × (c < end) ⌝ }
+    ensures { λ r. ⌜ Joined (now (table .entry)) (apart (now (table .entry)) separation (now (widths .entry))) f c end r (now (work .entry)) (now (work .exit)) ⌝ }
 {
-    let mut s = begin(work, f, c, separation as i32);
+    let mut s = begin(work, f, c);
     let start = s.left;
     'contours: loop {
-        let amount = meet(work, s, f, c, default, separation);
+        let amount = meet(work, s, f, c, default);
         s.moved = s.moved + amount;
         if ended(work, s) {
             break 'contours;

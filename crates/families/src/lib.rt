@@ -4,7 +4,7 @@ ghost use Rattle.tree.specs.Forest.{treeOf};
 ghost use Rattle.tree.specs.Table.{nodes};
 ghost use Rattle.level_order.specs.Fields;
 ghost use Rattle.families.specs.Joining.{Given};
-ghost use Rattle.level_order.specs.Numbered.{Numbered, Fresh};
+ghost use Rattle.level_order.specs.Numbered.{apart, Numbered, Fresh};
 ghost use Rattle.families.specs.Families.{FamiliesFrom};
 
 mod family;
@@ -16,17 +16,17 @@ use level_order::field::PLACE;
 use level_order::field::put;
 
 // Gives every position but the root's its offset from its parent, and the root its place 0.
-pub fn families(table: &[u16], separation: u16, work: &mut [i32])
-    requires { ⌜ Given (now table) separation ⌝ }
-    requires { ⌜ Numbered (treeOf (now table)) (nodes (now table)) (now work) ⌝ }
+pub fn families(table: &[u16], separation: u16, widths: &[u16], work: &mut [i32])
+    requires { ⌜ Given (now table) (apart (now table) separation (now widths)) ⌝ }
+    requires { ⌜ Numbered (treeOf (now table)) (apart (now table) separation (now widths)) (nodes (now table)) (now work) ⌝ }
     requires { ⌜ Fresh (nodes (now table)) (now work) ⌝ }
-    ensures { λ _. ⌜ FamiliesFrom (now (table .entry)) separation (now (work .entry)) (now (work .exit)) ⌝ }
+    ensures { λ _. ⌜ FamiliesFrom (now (table .entry)) (apart (now (table .entry)) separation (now (widths .entry))) (now (work .entry)) (now (work .exit)) ⌝ }
 {
     let mut p = table.len() / 2;
     while 0 < p {
         p -= 1;
         if join::position(work, p, FIRST) < join::past(work, p) {
-            family::family(table, separation, work, p);
+            family::family(table, separation, widths, work, p);
         }
     }
     put(work, 0, PLACE, 0);

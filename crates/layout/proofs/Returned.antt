@@ -12,6 +12,7 @@ use lib.Seq.{drop-at}
 use lib.Signed.{_≤ℤ_}
 use Rattle.refusal.specs.After.{granted, overwrite, after}
 use Rattle.refusal.proofs.After.{granted-accepted, after-accepted, overwrite-split}
+use Rattle.distance.specs.Needed.{Distance, halfWidth, needed}
 use Rattle.tree.specs.Numbers.{upTo}
 use Rattle.tree.specs.Table.{nodes}
 use Rattle.tree.specs.Levels.{Pair, level, levelCount, neighbours}
@@ -33,18 +34,22 @@ use Rattle.second_walk.proofs.EntryForEach.{map-upTo, length-upTo}
 
 -- ---- one call
 
-module _ (t : List ℕ) (D : ℕ) (s : Slices) (a : Answer) (u : Slices) (L : Layout t D s a u) (granted-call : a .number ≡ 0) where
-  number-0 : layoutNumber t D s ≡ 0
+module _ (t : List ℕ) (D : ℕ) (hs : List ℕ) (s : Slices) (a : Answer) (u : Slices) (L : Layout t D hs s a u) (granted-call : a .number ≡ 0) where
+  -- what two nodes need
+  abbrev N : Distance
+  N = needed D hs
+
+  number-0 : layoutNumber t D hs s ≡ 0
   number-0 = sym (L .number) ∙ granted-call
 
   pub accepted : tableNumber t ≡ 0
-  accepted = taken t D s number-0 .table
+  accepted = taken t D hs s number-0 .table
 
-  written : {A : Type 0} (new old now : List A) → now ≡ after (layoutNumber t D s) new old → now ≡ new ++ drop (length new) old
+  written : {A : Type 0} (new old now : List A) → now ≡ after (layoutNumber t D hs s) new old → now ≡ new ++ drop (length new) old
   unfolding overwrite
   written {A} new old now e = e ∙ after-accepted _ new old number-0
 
-  field : {A : Type 0} (x y z : A) → z ≡ granted (layoutNumber t D s) x y → z ≡ x
+  field : {A : Type 0} (x y z : A) → z ≡ granted (layoutNumber t D hs s) x y → z ≡ x
   field {A} x y z e = e ∙ granted-accepted _ x y number-0
 
   -- the place and the level that stand in the slices, by node number
@@ -54,12 +59,12 @@ module _ (t : List ℕ) (D : ℕ) (s : Slices) (a : Answer) (u : Slices) (L : La
   abbrev pub levelOf : ℕ → ℕ
   levelOf v = getD (u .levels) v 0
 
-  pub place-returned : (v : ℕ) → v < nodes t → placeOf v ≡ place D t v
+  pub place-returned : (v : ℕ) → v < nodes t → placeOf v ≡ place N t v
   unfolding placesOf
   place-returned v h =
-      ap (λ (l : List ℤ). getD l v (pos 0)) (written (placesOf D t) (s .places) (u .places) (L .places))
-      ∙ List·getD-append (placesOf D t) (drop (length (placesOf D t)) (s .places)) (pos 0) v (omega (arith, h, length-map (upTo (nodes t)) (place D t), length-upTo (nodes t)))
-      ∙ map-upTo (place D t) (pos 0) (nodes t) v h
+      ap (λ (l : List ℤ). getD l v (pos 0)) (written (placesOf N t) (s .places) (u .places) (L .places))
+      ∙ List·getD-append (placesOf N t) (drop (length (placesOf N t)) (s .places)) (pos 0) v (omega (arith, h, length-map (upTo (nodes t)) (place N t), length-upTo (nodes t)))
+      ∙ map-upTo (place N t) (pos 0) (nodes t) v h
 
   pub level-returned : (v : ℕ) → v < nodes t → levelOf v ≡ level t v
   unfolding levelsOf
@@ -90,28 +95,34 @@ module _ (t : List ℕ) (D : ℕ) (s : Slices) (a : Answer) (u : Slices) (L : La
       ap (λ (l : List ℕ). pairAt l i) record-returned ∙ flat-at (neighbours t) (drop (2 * a .pairs) (s .theRecord)) d i (omega (arith, pair-count))
 
   -- pairs of the drawing, and of what the slices hold
-  left-returned : (v w : ℕ) → v < nodes t → w < nodes t → LeftBy (place D t) D v w → LeftBy placeOf D v w
-  left-returned v w h k = subst₂ (λ (x y : ℤ). (x +ℤ pos D) ≤ℤ y) (sym (place-returned v h)) (sym (place-returned w k))
+  left-returned : (d v w : ℕ) → v < nodes t → w < nodes t → LeftBy (place N t) d v w → LeftBy placeOf d v w
+  left-returned d v w h k = subst₂ (λ (x y : ℤ). (x +ℤ pos d) ≤ℤ y) (sym (place-returned v h)) (sym (place-returned w k))
 
-  abbrev some : 1 ≤ D
-  some = taken t D s number-0 .some
+  some : 1 ≤ D
+  some = taken t D hs s number-0 .some
 
-  beside-at : (i : ℕ) → i < a .pairs → SideBySide (λ v. v < nodes t) (level t) (place D t) (getD (neighbours t) i (0, 0) .0) (getD (neighbours t) i (0, 0) .1)
-  beside-at i h = all-at _ (neighbours t) (0, 0) (neighbours-beside D t some accepted) i (omega (arith, pair-count))
+  least-needed : (v w : ℕ) → D ≤ N v w
+  least-needed v w = omega arith
+
+  some-needed : (v w : ℕ) → 1 ≤ N v w
+  some-needed v w = omega (arith, some)
+
+  beside-at : (i : ℕ) → i < a .pairs → SideBySide (λ v. v < nodes t) (level t) (place N t) (getD (neighbours t) i (0, 0) .0) (getD (neighbours t) i (0, 0) .1)
+  beside-at i h = all-at _ (neighbours t) (0, 0) (neighbours-beside N t some-needed accepted) i (omega (arith, pair-count))
 
   -- of two pairs the earlier one stands on a higher level, or on the same level and at least the separation further left
   pub reading-order-returned : (i j : ℕ) → i < j → j < a .pairs → ReadBefore levelOf placeOf D (pairOf i) (pairOf j)
   reading-order-returned i j h k =
       subst₂ (ReadBefore levelOf placeOf D) (sym (pair-returned (0, 0) i (omega arith))) (sym (pair-returned (0, 0) j k))
       (told (getD (neighbours t) i (0, 0)) (getD (neighbours t) j (0, 0)) (inside i (omega arith)) (inside j k)
-      (neighbours-read D t accepted (0, 0) i j h (omega (arith, pair-count))))
+      (neighbours-read N D least-needed t accepted (0, 0) i j h (omega (arith, pair-count))))
     where
       inside : (i : ℕ) → i < a .pairs → getD (neighbours t) i (0, 0) .0 < nodes t
       inside i h = beside-at i h .left-in
 
-      told : (p q : Pair) → p .0 < nodes t → q .0 < nodes t → ReadBefore (level t) (place D t) D p q → ReadBefore levelOf placeOf D p q
+      told : (p q : Pair) → p .0 < nodes t → q .0 < nodes t → ReadBefore (level t) (place N t) D p q → ReadBefore levelOf placeOf D p q
       told p q h k (inl above) = inl (omega (arith, level-returned (p .0) h, level-returned (q .0) k))
-      told p q h k (inr beside) = inr (level-returned (p .0) h ∙ beside .0 ∙ sym (level-returned (q .0) k), left-returned (p .0) (q .0) h k (beside .1))
+      told p q h k (inr beside) = inr (level-returned (p .0) h ∙ beside .0 ∙ sym (level-returned (q .0) k), left-returned D (p .0) (q .0) h k (beside .1))
 
   -- each pair once
   pub once-returned : (i j : ℕ) → i < a .pairs → j < a .pairs → pairOf i ≡ pairOf j → i ≡ j
@@ -131,12 +142,12 @@ module _ (t : List ℕ) (D : ℕ) (s : Slices) (a : Answer) (u : Slices) (L : La
   named-returned i h =
       let B = beside-at i h in
       subst (λ (p : Pair). Beside (p .0) (p .1)) (sym (pair-returned (0, 0) i h))
-      (beside-told _ _ (level t) levelOf (place D t) placeOf _ _ (λ v k. (sym (level-returned v k), sym (place-returned v k))) (λ v k m. k) (B .left-in) (B .right-in) B)
+      (beside-told _ _ (level t) levelOf (place N t) placeOf _ _ (λ v k. (sym (level-returned v k), sym (place-returned v k))) (λ v k m. k) (B .left-in) (B .right-in) B)
 
   pub beside-returned : (x y : ℕ) → Beside x y → (i : ℕ) × (i < a .pairs) × (pairOf i ≡ (x, y))
   beside-returned x y B =
-      let drawn = beside-told _ _ levelOf (level t) placeOf (place D t) x y (λ v k. (level-returned v k, place-returned v k)) (λ v k m. k) (B .left-in) (B .right-in) B in
-      let m = pair-index x y (neighbours t) (0, 0) (beside-neighbours D t some accepted x y drawn) in
+      let drawn = beside-told _ _ levelOf (level t) placeOf (place N t) x y (λ v k. (level-returned v k, place-returned v k)) (λ v k m. k) (B .left-in) (B .right-in) B in
+      let m = pair-index x y (neighbours t) (0, 0) (beside-neighbours N t some-needed accepted x y drawn) in
       (m .0, omega (arith, m .1, pair-count), pair-returned (0, 0) (m .0) (omega (arith, m .1, pair-count)) ∙ m .2)
 
   -- pairs = nodes - levels
@@ -144,24 +155,26 @@ module _ (t : List ℕ) (D : ℕ) (s : Slices) (a : Answer) (u : Slices) (L : La
   pairs-returned =
       omega (arith, pair-count, field (levelCount t) 0 (a .levels) (L .levelCount), field (nodes t) 0 (a .nodes) (L .nodes), neighbours-count t accepted)
 
-  -- neighbours stand in tree order, at least the separation apart
-  pub apart-returned : All (λ p. (placeOf (p .0) +ℤ pos D) ≤ℤ (placeOf (p .1))) (neighbours t)
-  apart-returned = all-both _ _ _ (λ p B. left-returned (p .0) (p .1) (B .left-in) (B .right-in)) (neighbours t) (neighbours-beside D t some accepted) (neighbours-apart D t accepted)
+  -- neighbours stand in tree order, at least the distance apart that they need
+  pub apart-returned : All (λ p. (placeOf (p .0) +ℤ pos (N (p .0) (p .1))) ≤ℤ (placeOf (p .1))) (neighbours t)
+  apart-returned =
+      all-both _ _ _ (λ p B. left-returned (N (p .0) (p .1)) (p .0) (p .1) (B .left-in) (B .right-in)) (neighbours t)
+      (neighbours-beside N t some-needed accepted) (neighbours-apart N t accepted)
 
   -- least and greatest are the places of two nodes, and no place is outside them
   pub least-returned : ((v : ℕ) → v < nodes t → a .least ≤ℤ placeOf v) × ((v : ℕ) × (v < nodes t) × (placeOf v ≡ a .least))
   least-returned =
-      let e = field (leastOf (placesOf D t)) (pos 0) (a .least) (L .least) in
-      let m = least-met D t accepted in (
-        (λ v h. subst₂ (λ (x y : ℤ). x ≤ℤ y) (sym e) (sym (place-returned v h)) (least-bounds D t accepted v h)),
+      let e = field (leastOf (placesOf N t)) (pos 0) (a .least) (L .least) in
+      let m = least-met N t accepted in (
+        (λ v h. subst₂ (λ (x y : ℤ). x ≤ℤ y) (sym e) (sym (place-returned v h)) (least-bounds N t accepted v h)),
         (m .0, m .1, place-returned (m .0) (m .1) ∙ m .2 ∙ sym e),
       )
 
   pub greatest-returned : ((v : ℕ) → v < nodes t → placeOf v ≤ℤ a .greatest) × ((v : ℕ) × (v < nodes t) × (placeOf v ≡ a .greatest))
   greatest-returned =
-      let e = field (greatestOf (placesOf D t)) (pos 0) (a .greatest) (L .greatest) in
-      let m = greatest-met D t accepted in (
-        (λ v h. subst₂ (λ (x y : ℤ). x ≤ℤ y) (sym (place-returned v h)) (sym e) (greatest-bounds D t accepted v h)),
+      let e = field (greatestOf (placesOf N t)) (pos 0) (a .greatest) (L .greatest) in
+      let m = greatest-met N t accepted in (
+        (λ v h. subst₂ (λ (x y : ℤ). x ≤ℤ y) (sym (place-returned v h)) (sym e) (greatest-bounds N t accepted v h)),
         (m .0, m .1, place-returned (m .0) (m .1) ∙ m .2 ∙ sym e),
       )
 
@@ -174,25 +187,27 @@ pub record ReturnedEqually (places places′ : ℕ → ℤ) (levels levels′ : 
   pub shifted : All (λ p. places′ (p .1) ≡ places (p .0) +ℤ shift) ps
   pub deeper : All (λ p. pos (levels′ (p .1)) ≡ pos (levels (p .0)) +ℤ depth) ps
 
-module _ (D : ℕ) (t : List ℕ) (s : Slices) (a : Answer) (u : Slices) (L : Layout t D s a u) (granted-call : a .number ≡ 0)
-    (t′ : List ℕ) (s′ : Slices) (a′ : Answer) (u′ : Slices) (L′ : Layout t′ D s′ a′ u′) (granted-call′ : a′ .number ≡ 0) where
+module _ (D : ℕ) (t hs : List ℕ) (s : Slices) (a : Answer) (u : Slices) (L : Layout t D hs s a u) (granted-call : a .number ≡ 0)
+    (t′ hs′ : List ℕ) (s′ : Slices) (a′ : Answer) (u′ : Slices) (L′ : Layout t′ D hs′ s′ a′ u′) (granted-call′ : a′ .number ≡ 0) where
+  -- The two nodes have one ordered shape, and every two corresponding nodes below them one half-width.
   pub shapes-returned : (v w : ℕ) → v < nodes t → w < nodes t′ → sameOrderedShape t v t′ w ≡ true
-      → ReturnedEqually (placeOf t D s a u L granted-call) (placeOf t′ D s′ a′ u′ L′ granted-call′) (levelOf t D s a u L granted-call) (levelOf t′ D s′ a′ u′ L′ granted-call′)
+      → All (λ p. halfWidth hs (p .0) ≡ halfWidth hs′ (p .1)) (corresponding (under t v) (under t′ w))
+      → ReturnedEqually (placeOf t D hs s a u L granted-call) (placeOf t′ D hs′ s′ a′ u′ L′ granted-call′) (levelOf t D hs s a u L granted-call) (levelOf t′ D hs′ s′ a′ u′ L′ granted-call′)
       (correspondingUnder t v t′ w)
   unfolding correspondingUnder
-  shapes-returned v w hv hw same =
-      let E = shapes-equal D t t′ (accepted t D s a u L granted-call) (accepted t′ D s′ a′ u′ L′ granted-call′) v w hv hw same in
+  shapes-returned v w hv hw same equal =
+      let E = shapes-equal (λ x y. D + x + y) (halfWidth hs) (halfWidth hs′) t t′ (accepted t D hs s a u L granted-call) (accepted t′ D hs′ s′ a′ u′ L′ granted-call′) v w hv hw same equal in
       let inside : All (λ p. (p .0 < nodes t) × (p .1 < nodes t′)) ((v, w) ∷ corresponding (under t v) (under t′ w)) = (
         (hv, hw),
-        below-corresponding (nodes t) (nodes t′) (under t v) (under t′ w) (below-under t (accepted t D s a u L granted-call) v hv) (below-under t′ (accepted t′ D s′ a′ u′ L′ granted-call′) w hw),
+        below-corresponding (nodes t) (nodes t′) (under t v) (under t′ w) (below-under t (accepted t D hs s a u L granted-call) v hv) (below-under t′ (accepted t′ D hs′ s′ a′ u′ L′ granted-call′) w hw),
       ) in
       record {
         shift = E .shift;
         depth = E .depth;
         shifted = all-both (λ p. (p .0 < nodes t) × (p .1 < nodes t′)) _ _
-            (λ p b h. place-returned t′ D s′ a′ u′ L′ granted-call′ (p .1) (b .1) ∙ h ∙ ap (λ (x : ℤ). x +ℤ E .shift) (sym (place-returned t D s a u L granted-call (p .0) (b .0))))
+            (λ p b h. place-returned t′ D hs′ s′ a′ u′ L′ granted-call′ (p .1) (b .1) ∙ h ∙ ap (λ (x : ℤ). x +ℤ E .shift) (sym (place-returned t D hs s a u L granted-call (p .0) (b .0))))
             ((v, w) ∷ corresponding (under t v) (under t′ w)) inside (E .places);
         deeper = all-both (λ p. (p .0 < nodes t) × (p .1 < nodes t′)) _ _
-            (λ p b h. ap pos (level-returned t′ D s′ a′ u′ L′ granted-call′ (p .1) (b .1)) ∙ h ∙ ap (λ (x : ℕ). pos x +ℤ E .depth) (sym (level-returned t D s a u L granted-call (p .0) (b .0))))
+            (λ p b h. ap pos (level-returned t′ D hs′ s′ a′ u′ L′ granted-call′ (p .1) (b .1)) ∙ h ∙ ap (λ (x : ℕ). pos x +ℤ E .depth) (sym (level-returned t D hs s a u L granted-call (p .0) (b .0))))
             ((v, w) ∷ corresponding (under t v) (under t′ w)) inside (E .levels);
       }

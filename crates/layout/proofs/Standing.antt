@@ -5,6 +5,7 @@ use Prim.Native.Nat.{ℕ, suc, _+_, _*_, _≤_, _<_}
 use native.Mathlib.Omega.{arith}
 use lib.IntN.{ℤ, pos, _+ℤ_, _-ℤ_}
 use lib.ListN.{length}
+use Rattle.distance.specs.Needed.{Distance}
 use Rattle.tree.specs.Numbers.{count}
 use Rattle.tree.specs.Table.{nodes}
 use Rattle.tree.specs.Forest.{Forest, nil, node, roots, entry, siblings, preorder, treeOf}
@@ -19,12 +20,13 @@ use Rattle.rule.specs.Rule.{draw, drawn}
 use Rattle.rule.specs.Result.{place}
 use Rattle.rule.proofs.Signed.{below0, parts-add, parts-sub, parts-eq}
 use Rattle.rule.proofs.Names.{names, names-draw}
-use Rattle.rule.proofs.OnLevel.{OnLevel, top, down, on-left, on-right}
+use Rattle.rule.proofs.Shapes.{renameDot, needBy, rename-dots, rename-draw}
+use Rattle.rule.proofs.OnLevel.{OnLevel, top, down, on-left, on-right, on-move}
 use Rattle.rule.proofs.Lookup.{dot-place, dot-level}
 use Rattle.level_order.specs.LevelOrder.{nodeAt, firstAt, positions, positionTree}
 use Rattle.level_order.specs.Fields.{get, NODE, PARENT, PLACE}
 use Rattle.level_order.specs.Numbered.{Numbered, Parents}
-use Rattle.level_order.proofs.Rename.{rename}
+use Rattle.tree.proofs.Rename.{rename}
 use Rattle.level_order.proofs.Positions.{Ordered, Laid, family, run-node, run-nil, laid-run}
 use Rattle.level_order.proofs.InOrder.{ordered}
 use Rattle.level_order.proofs.Occurs.{times-all}
@@ -32,7 +34,6 @@ use Rattle.level_order.proofs.PositionTree.{position-tree}
 use Rattle.contours.specs.Rows.{Offsets}
 use Rattle.families.specs.Families.{Placed}
 use Rattle.second_walk.specs.SecondWalk.{Ready}
-use Rattle.layout.proofs.Redrawn.{renameDot, rename-stands}
 
 -- ---- a drawing of positions whose dots stand where X and L say
 
@@ -107,7 +108,7 @@ module _ (first : ℕ → ℕ) (offset X : ℕ → ℤ) (L : ℕ → ℕ) where
 
 -- ---- an accepted table
 
-module _ (D : ℕ) (t : List ℕ) (accepted : tableNumber t ≡ 0) where
+module _ (D : Distance) (t : List ℕ) (accepted : tableNumber t ≡ 0) where
   abbrev f : Forest
   f = treeOf t
 
@@ -119,6 +120,10 @@ module _ (D : ℕ) (t : List ℕ) (accepted : tableNumber t ≡ 0) where
 
   abbrev L : ℕ → ℕ
   L p = level t (nodeAt f p)
+
+  -- what two positions need
+  abbrev E : Distance
+  E = needBy (nodeAt f) D
 
   abbrev O : Ordered (firstAt f) n
   O = ordered t accepted
@@ -138,11 +143,13 @@ module _ (D : ℕ) (t : List ℕ) (accepted : tableNumber t ≡ 0) where
   tree-of-positions = ap (λ (m : ℕ). rename (nodeAt f) (positionTree f m)) (sym (accepted-size t accepted)) ∙ position-tree f one-root
 
   -- a dot of the drawing of the tree of positions tells where the position's node stands
-  position-stands : (e : Dot) (r : ℕ) → OnLevel e r (dots 0 (pos 0) (draw D (positionTree f n))) → (X (e .node) ≡ e .place) × (L (e .node) ≡ 0 + r)
+  position-stands : (e : Dot) (r : ℕ) → OnLevel e r (dots 0 (pos 0) (draw E (positionTree f n))) → (X (e .node) ≡ e .place) × (L (e .node) ≡ 0 + r)
   unfolding drawn
   position-stands e r o =
+      let tree = positionTree f n in
       let s : OnLevel (renameDot (nodeAt f) e) r (drawn D t) =
-      subst (λ (g : Forest). OnLevel (renameDot (nodeAt f) e) r (dots 0 (pos 0) (draw D g))) tree-of-positions (rename-stands (nodeAt f) D 0 r (pos 0) (positionTree f n) e o) in
+      subst (λ (g : Forest). OnLevel (renameDot (nodeAt f) e) r (dots 0 (pos 0) (draw D g))) tree-of-positions
+      (rw (rename-draw D (nodeAt f) tree, rename-dots) (on-move (renameDot (nodeAt f)) (dots 0 (pos 0) (draw E tree)) o)) in
       (dot-place D t accepted (renameDot (nodeAt f) e) r s, dot-level D t accepted (renameDot (nodeAt f) e) r s ∙ omega arith)
 
   -- every position is in the tree of positions
@@ -151,27 +158,27 @@ module _ (D : ℕ) (t : List ℕ) (accepted : tableNumber t ≡ 0) where
       let one : firstAt f 0 ≡ 1 = omega (arith, one-root) in
       omega (arith, subst (λ (b : ℕ). count p (preorder (positions n (firstAt f) 0 b)) ≡ 1) one (times-all (firstAt f) n O p h))
 
-  module _ (work : List ℤ) (P : Placed D f n work) where
+  module _ (work : List ℤ) (P : Placed E f n work) where
     placed-children : (q : ℕ) → q < n → Children (firstAt f) (get work PLACE) X L q
     placed-children q h =
         let tree = positionTree f n in
-        let laid : Laid (firstAt f) 0 1 (names (draw D tree)) = subst (Laid (firstAt f) 0 1) (sym (names-draw D tree)) (laid-run (firstAt f) n O 0 1 (omega arith) some) in
+        let laid : Laid (firstAt f) 0 1 (names (draw E tree)) = subst (Laid (firstAt f) 0 1) (sym (names-draw E tree)) (laid-run (firstAt f) n O 0 1 (omega arith) some) in
         counted-all (Children (firstAt f) (get work PLACE) X L) (preorder tree)
-        (subst (λ (g : Forest). All (Children (firstAt f) (get work PLACE) X L) (preorder g)) (names-draw D tree)
-        (all-children (firstAt f) (get work PLACE) X L (draw D tree) 0 1 0 0 0 (pos 0) laid P position-stands))
+        (subst (λ (g : Forest). All (Children (firstAt f) (get work PLACE) X L) (preorder g)) (names-draw E tree)
+        (all-children (firstAt f) (get work PLACE) X L (draw E tree) 0 1 0 0 0 (pos 0) laid P position-stands))
         q (in-tree q h)
 
     -- the root's own offset is 0
     placed-root : get work PLACE 0 ≡ pos 0
-    placed-root = top-offset (family (firstAt f) n 0) (subst (λ (g : Forest). Offsets (get work PLACE) 0 (draw D g)) alone P)
+    placed-root = top-offset (family (firstAt f) n 0) (subst (λ (g : Forest). Offsets (get work PLACE) 0 (draw E g)) alone P)
       where
         alone : positionTree f n ≡ node 0 (family (firstAt f) n 0) nil
         alone = run-node (firstAt f) n O 0 1 (omega arith) some ∙ ap (node 0 (family (firstAt f) n 0)) (run-nil (firstAt f) n O 1 1 (omega arith))
 
-        top-offset : (b : Forest) → Offsets (get work PLACE) 0 (draw D (node 0 b nil)) → get work PLACE 0 ≡ pos 0
+        top-offset : (b : Forest) → Offsets (get work PLACE) 0 (draw E (node 0 b nil)) → get work PLACE 0 ≡ pos 0
         top-offset b h = h .0
 
-  pub ready : (before work : List ℤ) → Numbered f n before → Parents f n before → Placed D f n work → 16 * n ≤ length work
+  pub ready : (before work : List ℤ) → Numbered f E n before → Parents f n before → Placed E f n work → 16 * n ≤ length work
       → ((g p : ℕ) → g < PLACE → get work g p ≡ get before g p) → Ready D t work
   ready before work N Q P s same =
       record {

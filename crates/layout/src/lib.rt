@@ -18,12 +18,13 @@ pub struct Drawn {
 fn layout_number(
     table: &[u16],
     separation: u16,
+    widths: &[u16],
     places: &[i32],
     levels: &[u16],
     measured: &[u16],
     work: &[i32],
 ) -> u16
-    ensures { λ r. ⌜ r ≡ layoutNumber (now (table .entry)) separation (slices (now (places .entry)) (now (levels .entry)) (now (measured .entry)) (now (work .entry))) ⌝ }
+    ensures { λ r. ⌜ r ≡ layoutNumber (now (table .entry)) separation (now (widths .entry)) (slices (now (places .entry)) (now (levels .entry)) (now (measured .entry)) (now (work .entry))) ⌝ }
 {
     let checked = tree::check_table(table);
     let number = checked.number;
@@ -34,6 +35,9 @@ fn layout_number(
         return 6;
     }
     let n = table.len() / 2;
+    if distance::half_widths_wrong(widths, n) {
+        return 17;
+    }
     if places.len() < n || levels.len() < n || measured.len() < 2 * n {
         return 7;
     }
@@ -44,18 +48,19 @@ fn layout_number(
 }
 
 // Writes places and levels by node number, and the pairs of neighbours as the record; the first 16 working entries for each node are 0
-// afterwards. A refusal gives its number and changes nothing.
+// afterwards. `widths` are the nodes' half-widths; those past n are not looked at. A refusal gives its number and changes nothing.
 pub fn layout(
     table: &[u16],
     separation: u16,
+    widths: &[u16],
     places: &mut [i32],
     levels: &mut [u16],
     measured: &mut [u16],
     work: &mut [i32],
 ) -> Drawn
-    ensures { λ r. ⌜ Layout (now (table .entry)) separation (slices (now (places .entry)) (now (levels .entry)) (now (measured .entry)) (now (work .entry))) (answer (r .number) (r .nodes) (r .levels) (r .least) (r .greatest) (r .pairs)) (slices (now (places .exit)) (now (levels .exit)) (now (measured .exit)) (now (work .exit))) ⌝ }
+    ensures { λ r. ⌜ Layout (now (table .entry)) separation (now (widths .entry)) (slices (now (places .entry)) (now (levels .entry)) (now (measured .entry)) (now (work .entry))) (answer (r .number) (r .nodes) (r .levels) (r .least) (r .greatest) (r .pairs)) (slices (now (places .exit)) (now (levels .exit)) (now (measured .exit)) (now (work .exit))) ⌝ }
 {
-    let refused = layout_number(table, separation, places, levels, measured, work);
+    let refused = layout_number(table, separation, widths, places, levels, measured, work);
     if refused != 0 {
         return Drawn {
             number: refused,
@@ -68,11 +73,13 @@ pub fn layout(
     }
     let n = table.len() / 2;
     let entries = 2 * n;
-    level_order::number(table, work);
-    families::families(table, separation, work);
+    let own = &widths[..n];
+    level_order::number(table, separation, own, work);
+    families::families(table, separation, own, work);
     let settled = second_walk::second_walk(
         table,
         separation,
+        own,
         &mut places[..n],
         &mut levels[..n],
         &mut measured[..entries],

@@ -6,7 +6,6 @@ pub mod InQueue
 pub mod Positions
 pub mod InOrder
 pub mod Occurs
-pub mod Rename
 pub mod PositionTree
 pub mod Order
 pub mod Beside
@@ -17,3 +16,4 @@ pub mod Appending
 pub mod Settled
 pub mod Numbering
 pub mod TableNumbering
+pub mod Fielded

@@ -9,7 +9,7 @@ use Rattle.level_order.proofs.Waiting.{rootCount, waiting-none, waiting
 use Rattle.level_order.proofs.FirstAt.{firstAt-others, firstAt-end}
 use Rattle.level_order.proofs.Positions.{Ordered, within, run, family, run-node, run-nil, run-next, run-roots}
 use Rattle.level_order.proofs.InOrder.{forest-ordered}
-use Rattle.level_order.proofs.Rename.{rename, rename-join, rename-roots}
+use Rattle.tree.proofs.Rename.{rename, rename-join, rename-roots}
 
 -- two rows that are joined can be told apart
 joined-apart : (f g h k : Forest) → length (roots f) ≡ length (roots h) → join f g ≡ join h k → (f ≡ h) × (g ≡ k)

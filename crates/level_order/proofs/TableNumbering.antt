@@ -1,10 +1,11 @@
 -- The numbering of an accepted table: where it starts, one turn of it, and what it leaves. Assumes nothing.
 use mathlib.Core.Path.{_≡_, sym, ap, ap₂, _∙_, subst, subst₂}
 use mathlib.Core.List.{List}
-use Prim.Native.Nat.{ℕ, suc, _+_, _-_, _*_, _≤_, _<_}
+use Prim.Native.Nat.{ℕ, zero, suc, _+_, _-_, _*_, _≤_, _<_}
 use native.Mathlib.Omega.{arith}
 use lib.IntN.{ℤ, pos}
 use lib.ListN.{length}
+use Rattle.distance.specs.Needed.{halfWidth}
 use Rattle.tree.specs.Table.{nodes}
 use Rattle.tree.specs.Forest.{Forest, nil, node, size, roots, entry, children, siblings, treeOf}
 use Rattle.tree.specs.Levels.{childrenOf}
@@ -21,25 +22,40 @@ use Rattle.level_order.proofs.Positions.{within}
 use Rattle.level_order.proofs.InOrder.{forest-ordered}
 use Rattle.level_order.proofs.Numbering.{Numbering, start-size, start-rest, number-start, number-turn}
 
-module _ (t : List ℕ) (accepted : tableNumber t ≡ 0) where
+module _ (t : List ℕ) (separation : ℕ) (hs : List ℕ) where
+  abbrev pub half : ℕ → ℕ
+  half q = halfWidth hs (nodeAt (treeOf t) q)
+
+  -- how far the position before q reaches, and what q needs from it
+  abbrev pub reachOf : ℕ → ℕ
+  reachOf zero = separation
+  reachOf (suc q) = separation + half q
+
+  abbrev pub need : ℕ → ℕ
+  need q = reachOf q + half q
+
+module _ (t : List ℕ) (separation : ℕ) (hs : List ℕ) (accepted : tableNumber t ≡ 0) where
   abbrev pub tree : Forest
   tree = treeOf t
+
+  abbrev needs : ℕ → ℕ
+  needs = need t separation hs
 
   all-nodes : size tree ≡ nodes t
   all-nodes = accepted-size t accepted
 
   module _ (before start : List ℤ) (queue : start ≡ queued before 0 0 0) (room : 16 * nodes t ≤ length before) where
-    pub table-start : Numbering tree (nodes t) start start 0 1
+    pub table-start : Numbering tree needs (nodes t) start start 0 1
     table-start =
         let A = accepted-numbers t accepted in
-        number-start tree (nodes t) before start queue room (A .some) (A .root) (one tree (A .root) (A .alone))
+        number-start tree needs (nodes t) before start queue room (A .some) (A .root) (one tree (A .root) (A .alone))
       where
         one : (f : Forest) → entry f ≡ 0 → siblings f ≡ nil → rootCount f ≡ 1
         one nil e s = absurd (omega (arith, e))
         one (node v f g) e s = omega (arith, ap rootCount s)
 
     -- past the last position
-    pub table-end : {work : List ℤ} {p tail : ℕ} → Numbering tree (nodes t) start work p tail → nodes t ≤ p → NumberedFrom t before work
+    pub table-end : {work : List ℤ} {p tail : ℕ} → Numbering tree needs (nodes t) start work p tail → nodes t ≤ p → NumberedFrom t separation hs before work
     table-end {work} {p} {tail} N over =
         let A = accepted-numbers t accepted in
         record {
@@ -48,23 +64,24 @@ module _ (t : List ℕ) (accepted : tableNumber t ≡ 0) where
             node = λ q h. N .node q (omega (arith, h, all));
             first = λ q h. N .first q (omega (arith, h, over));
             count = λ q h. N .count q (omega (arith, h, over));
+            need = λ q h. N .needs (suc q) (omega (arith, h, over));
           };
           parents = record { parent = λ q h k. N .parent q h (omega (arith, k, all)) };
           fresh = record {
             ancestor = λ q h. N .ancestor q (omega (arith, h, over));
             gathered = λ g q l r h. N .gathered g q l r (omega (arith, h, over));
           };
-          rest = N .rest ∙ start-rest tree (nodes t) before start queue room (A .some);
+          rest = N .rest ∙ start-rest tree needs (nodes t) before start queue room (A .some);
           size = long;
         }
       where
         long : length work ≡ length before
-        long = N .size ∙ start-size tree (nodes t) before start queue room (accepted-numbers t accepted .some)
+        long = N .size ∙ start-size tree needs (nodes t) before start queue room (accepted-numbers t accepted .some)
 
         all : nodes t ≤ tail
         all = omega (arith, N .place, firstAt-end tree p (omega (arith, all-nodes)))
 
-  module _ {start work : List ℤ} {p tail : ℕ} (N : Numbering tree (nodes t) start work p tail) (room : 16 * nodes t ≤ length start) (more : p < nodes t) where
+  module _ {start work : List ℤ} {p tail : ℕ} (N : Numbering tree needs (nodes t) start work p tail) (room : 16 * nodes t ≤ length start) (more : p < nodes t) where
     inside : p < size tree
     inside = omega (arith, all-nodes)
 
@@ -87,21 +104,21 @@ module _ (t : List ℕ) (accepted : tableNumber t ≡ 0) where
     pub table-room : tail + length (childrenOf t (nodeAt tree p)) ≤ nodes t
     table-room = omega (arith, N .place, ap length node-children, firstAt-suc tree p inside, within (firstAt tree) (size tree) (forest-ordered tree) (suc p) inside, all-nodes)
 
-    pub table-turn : {v end : ℕ} {work₁ work₂ : List ℤ} → v ≡ nodeAt tree p → Appended t p v tail work end work₁
-        → work₂ ≡ settled work₁ p tail (end - tail) → Numbering tree (nodes t) start work₂ (p + 1) end
-    table-turn {v} {end} {work₁} {work₂} e A s =
+    pub table-turn : {v end m : ℕ} {work₁ work₂ : List ℤ} → v ≡ nodeAt tree p → Appended t p v tail work end work₁ → m ≡ needs p
+        → work₂ ≡ settled work₁ p tail (end - tail) m → Numbering tree needs (nodes t) start work₂ (p + 1) end
+    table-turn {v} {end} {m} {work₁} {work₂} e A r s =
         let row = roots (children (waiting p tree)) in
         let cs : childrenOf t v ≡ row = ap (childrenOf t) e ∙ node-children in
         let ends : end ≡ tail + length row = A .end ∙ ap (λ (l : List ℕ). tail + length l) cs in
         let counts : end - tail ≡ length row = omega (arith, ends) in
         let suc-p : suc p ≡ p + 1 = omega arith in
         let first : work₁ ≡ appended work p tail row = A .work ∙ ap (appended work p tail) cs in
-        let second : work₂ ≡ settled (appended work p tail row) p tail (length row) =
-        s ∙ ap₂ (λ (w : List ℤ) (k : ℕ). settled w p tail k) first counts in
-        let N′ : Numbering tree (size tree) start work p tail = subst (λ (n : ℕ). Numbering tree n start work p tail) (sym all-nodes) N in
-        let turned = number-turn tree start work p tail N′ (omega (arith, room, all-nodes)) inside in
-        let T₁ : Numbering tree (nodes t) start (settled (appended work p tail row) p tail (length row)) (suc p) (tail + length row) =
-        subst (λ (n : ℕ). Numbering tree n start (settled (appended work p tail row) p tail (length row)) (suc p) (tail + length row)) all-nodes turned in
-        let T₂ : Numbering tree (nodes t) start work₂ (suc p) (tail + length row) =
-        subst (λ (w : List ℤ). Numbering tree (nodes t) start w (suc p) (tail + length row)) (sym second) T₁ in
-        subst₂ (λ (q k : ℕ). Numbering tree (nodes t) start work₂ q k) suc-p (sym ends) T₂
+        let second : work₂ ≡ settled (appended work p tail row) p tail (length row) (needs p) =
+        s ∙ ap₂ (λ (w : List ℤ) (k : ℕ). settled w p tail k m) first counts ∙ ap (settled (appended work p tail row) p tail (length row)) r in
+        let N′ : Numbering tree needs (size tree) start work p tail = subst (λ (n : ℕ). Numbering tree needs n start work p tail) (sym all-nodes) N in
+        let turned = number-turn tree needs start work p tail N′ (omega (arith, room, all-nodes)) inside in
+        let T₁ : Numbering tree needs (nodes t) start (settled (appended work p tail row) p tail (length row) (needs p)) (suc p) (tail + length row) =
+        subst (λ (n : ℕ). Numbering tree needs n start (settled (appended work p tail row) p tail (length row) (needs p)) (suc p) (tail + length row)) all-nodes turned in
+        let T₂ : Numbering tree needs (nodes t) start work₂ (suc p) (tail + length row) =
+        subst (λ (w : List ℤ). Numbering tree needs (nodes t) start w (suc p) (tail + length row)) (sym second) T₁ in
+        subst₂ (λ (q k : ℕ). Numbering tree needs (nodes t) start work₂ q k) suc-p (sym ends) T₂

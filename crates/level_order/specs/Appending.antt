@@ -5,7 +5,7 @@ use mathlib.Core.List.{List, [], _∷_}
 use lib.IntN.{ℤ, pos}
 use lib.ListN.{length}
 use Rattle.tree.specs.Levels.{childrenOf}
-use Rattle.level_order.specs.Fields.{put, NODE, FIRST, COUNT, PARENT, ANCESTOR, SHIFT, CHANGE}
+use Rattle.level_order.specs.Fields.{put, NODE, FIRST, COUNT, PARENT, NEED, ANCESTOR, SHIFT, CHANGE}
 
 -- node c, a child of position p, at position tail
 abbrev pub queued : List ℤ → ℕ → ℕ → ℕ → List ℤ
@@ -21,7 +21,7 @@ pub record Appended (t : List ℕ) (p v tail : ℕ) (before : List ℤ) (r : ℕ
   pub end : r ≡ tail + length (childrenOf t v)
   pub work : after ≡ appended before p tail (childrenOf t v)
 
--- position p with its count children from position first on, its own ancestor, and not moved
-abbrev pub settled : List ℤ → ℕ → ℕ → ℕ → List ℤ
-settled work p first count =
-    put (put (put (put (put work FIRST p (pos first)) COUNT p (pos count)) ANCESTOR p (pos p)) SHIFT p (pos 0)) CHANGE p (pos 0)
+-- position p with its count children from position first on, what it needs from the position before it, its own ancestor, and not moved
+abbrev pub settled : List ℤ → ℕ → ℕ → ℕ → ℕ → List ℤ
+settled work p first count need =
+    put (put (put (put (put (put work FIRST p (pos first)) COUNT p (pos count)) NEED p (pos need)) ANCESTOR p (pos p)) SHIFT p (pos 0)) CHANGE p (pos 0)

@@ -29,28 +29,32 @@ COUNT = 2
 abbrev pub PARENT : ℕ
 PARENT = 3
 
+-- the distance that it needs from the position before it
+abbrev pub NEED : ℕ
+NEED = 4
+
 -- the families: first the place in its row, then the offset from the parent; the second walk: the place
 abbrev pub PLACE : ℕ
-PLACE = 4
+PLACE = 5
 
 -- the step in place to the next node of the left contour, and of the right
 abbrev pub LEFT : ℕ
-LEFT = 5
+LEFT = 6
 
 abbrev pub RIGHT : ℕ
-RIGHT = 6
+RIGHT = 7
 
 -- the child of the row at hand to whose subtree the node belongs, where it is up to date
 abbrev pub ANCESTOR : ℕ
-ANCESTOR = 7
+ANCESTOR = 8
 
 -- what is still to be moved, gathered for the whole row
 abbrev pub SHIFT : ℕ
-SHIFT = 8
+SHIFT = 9
 
 abbrev pub CHANGE : ℕ
-CHANGE = 9
+CHANGE = 10
 
 -- the second walk
 abbrev pub LEVEL : ℕ
-LEVEL = 10
+LEVEL = 11

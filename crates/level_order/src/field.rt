@@ -13,19 +13,21 @@ pub const COUNT: usize = 2;
 
 pub const PARENT: usize = 3;
 
-pub const PLACE: usize = 4;
+pub const NEED: usize = 4;
 
-pub const LEFT: usize = 5;
+pub const PLACE: usize = 5;
 
-pub const RIGHT: usize = 6;
+pub const LEFT: usize = 6;
 
-pub const ANCESTOR: usize = 7;
+pub const RIGHT: usize = 7;
 
-pub const SHIFT: usize = 8;
+pub const ANCESTOR: usize = 8;
 
-pub const CHANGE: usize = 9;
+pub const SHIFT: usize = 9;
 
-pub const LEVEL: usize = 10;
+pub const CHANGE: usize = 10;
+
+pub const LEVEL: usize = 11;
 
 // A field of position p.
 pub fn get(work: &[i32], p: usize, field: usize) -> i32

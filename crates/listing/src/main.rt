@@ -5,7 +5,7 @@ use libc::STDOUT_FILENO;
 
 fn main() {
     // One byte more than the longest file, so that a longer input is seen to be longer.
-    let mut file = [0u8; 9217];
+    let mut file = [0u8; 11265];
     let length = io::read_full(STDIN_FILENO, &mut file);
     let mut text = [0u8; 41024];
     let end = render::list_sheet(&file[..length], &mut text);

@@ -1,31 +1,50 @@
--- With slices that are long enough the layout of a table has the table's number; and the text that a number decides on. Assumes nothing.
+-- With slices that are long enough the layout's number is that of the table with its half-widths; and the text that a number decides on.
+-- Assumes nothing.
 use mathlib.Core.Path.{_≡_, refl, sym, _∙_}
-use mathlib.Core.List.{List}
+use mathlib.Core.Bool.{Bool, true, false, cond}
+use mathlib.Core.List.{List, [], _∷_, _++_}
 use Prim.Native.Nat.{ℕ, zero, suc, _≤_}
 use native.Mathlib.Omega.{arith}
 use lib.ListN.{length}
+use Rattle.refusal.specs.First.{Condition, _⇐_, first}
 use Rattle.refusal.proofs.After.{granted-accepted, granted-refused}
-use Rattle.tree.specs.WellFormed.{tableNumber}
+use Rattle.distance.specs.Needed.{badHalfWidths}
+use Rattle.distance.proofs.Separation.{separation-good}
+use Rattle.tree.specs.Table.{nodes}
+use Rattle.tree.specs.WellFormed.{tableConditions, tableNumber}
+use Rattle.tree.proofs.Number.{table-refused, table-passed}
 use Rattle.tree.proofs.Stands.{accepted-numbers}
 use Rattle.rule.specs.Result.{Slices, layoutNumber}
-use Rattle.rule.proofs.Separation.{separation-good}
-use Rattle.layout.proofs.Answers.{results-long, work-long, number-table, number-0}
+use Rattle.layout.proofs.Answers.{results-long, work-long, number-table, number-17, number-0, taken}
 use Rattle.lines.specs.Listing.{refusedLine}
-use Rattle.render.specs.Text.{unlessRefused}
+use Rattle.render.specs.Text.{unlessRefused, drawingNumber}
 
 -- ---- the layout
 
-module _ (t : List ℕ) (D : ℕ) (s : Slices) (some : 1 ≤ D) (small : D ≤ 1024) (places : 1024 ≤ length (s .places)) (levels : 1024 ≤ length (s .levels))
+module _ (t : List ℕ) (D : ℕ) (hs : List ℕ) (s : Slices) (some : 1 ≤ D) (small : D ≤ 1024) (places : 1024 ≤ length (s .places)) (levels : 1024 ≤ length (s .levels))
     (measured : 2048 ≤ length (s .theRecord)) (work : 16384 ≤ length (s .work)) where
-  pub table-decides : layoutNumber t D s ≡ tableNumber t
+  abbrev own : List Condition
+  own = 17 ⇐ badHalfWidths (nodes t) hs ∷ []
+
+  pub table-decides : layoutNumber t D hs s ≡ drawingNumber t hs
+  unfolding drawingNumber
   table-decides = go (tableNumber t) refl
     where
-      go : (k : ℕ) → k ≡ tableNumber t → layoutNumber t D s ≡ tableNumber t
-      go zero e =
-          let few = accepted-numbers t (sym e) .few in
-          sym (number-0 t D s (sym e) (separation-good D some small) (results-long t s (omega (arith, few)) (omega (arith, few)) (omega (arith, few)))
-          (work-long t s (omega (arith, few)))) ∙ e
-      go (suc k) e = sym (number-table t D s (suc k) e (λ z. omega arith)) ∙ e
+      -- past the table's conditions the half-widths decide
+      past : tableNumber t ≡ 0 → (b : Bool) → badHalfWidths (nodes t) hs ≡ b → layoutNumber t D hs s ≡ cond b 17 0
+      past e true wide = sym (number-17 t D hs s e (separation-good D some small) wide)
+      past e false narrow =
+          let few = accepted-numbers t e .few in
+          sym (number-0 t D hs s e (separation-good D some small) narrow (results-long t s (omega (arith, few)) (omega (arith, few)) (omega (arith, few)))
+          (work-long t s (omega (arith, few))))
+
+      go : (k : ℕ) → k ≡ tableNumber t → layoutNumber t D hs s ≡ first (tableConditions t ++ own)
+      go zero e = past (sym e) (badHalfWidths (nodes t) hs) refl ∙ sym (table-passed t own (sym e))
+      go (suc k) e = sym (number-table t D hs s (suc k) e (λ z. omega arith)) ∙ sym (table-refused t own (suc k) e (λ z. omega arith))
+
+  -- so a table that is drawn is well-formed
+  pub drawn-accepted : layoutNumber t D hs s ≡ 0 → tableNumber t ≡ 0
+  drawn-accepted e = taken t D hs s e .table
 
 -- ---- the text
 

@@ -4,6 +4,7 @@ use mathlib.Core.Bool.{Bool, true, not}
 use mathlib.Core.Logic.{inr}
 use mathlib.Core.List.{List}
 use Prim.Native.Nat.{ℕ, _*_, _%_, _≤_, _<_}
+use native.Mathlib.Omega.{arith}
 use lib.Dec.{eqb, ltb, leb}
 use lib.ListN.{length, take}
 use borrow.Author.Tests.{le-leb, lt-ltb}
@@ -14,7 +15,7 @@ use Rattle.sheet.specs.Below.{joined}
 use Rattle.sheet.specs.Block.{blockBytes}
 use Rattle.sheet.specs.Layout.{blocksFor}
 use Rattle.sheet.specs.declared.Sheet.{Sheet}
-use Rattle.sheet.specs.Read.{nodesOf, separationOf, nodePair, tableOf, tapesOf, lengthWrong, fileNumber, refusal, SheetRead}
+use Rattle.sheet.specs.Read.{nodesOf, separationOf, nodePair, nodeSingle, tableOf, tapesOf, halfWidthsOf, lengthWrong, fileNumber, numberRead, SheetRead}
 use Rattle.sheet.proofs.Below.{length-joined}
 use Rattle.sheet.proofs.Answer.{readable, file-decides}
 use Rattle.lines.specs.Listing.{refusedLine}
@@ -28,10 +29,10 @@ pub with-room : {text old new : List ℕ} {answer : ℕ} → textRoom ≤ length
     → Printed (when (leb textRoom (length old)) text) old answer new
 with-room {text} {old} {new} {answer} room p = subst (λ (b : Bool). Printed (when b text) old answer new) (sym (le-leb textRoom (length old) room)) p
 
-module _ (file table tapes table′ tapes′ : List ℕ) (r : Sheet) (table-long : 2048 ≤ length table) (tapes-long : 2048 ≤ length tapes)
-    (S : SheetRead file table tapes r table′ tapes′) where
-  reads : refusal file (length table) (length tapes) ≡ fileNumber file
-  reads = file-decides file (length table) (length tapes) table-long tapes-long
+module _ (file table tapes widths table′ tapes′ widths′ : List ℕ) (r : Sheet) (table-long : 2048 ≤ length table) (tapes-long : 2048 ≤ length tapes)
+    (widths-long : 1024 ≤ length widths) (S : SheetRead file table tapes widths r table′ tapes′ widths′) where
+  reads : numberRead file table tapes widths ≡ fileNumber file
+  reads = file-decides file (length table) (length tapes) (length widths) table-long tapes-long widths-long
 
   -- a refusal
   pub refused-sheet : {old new : List ℕ} {k : ℕ} → textRoom ≤ length old → (r .number ≡ 0 → ⊥) → RefusalPrinted (r .number) old k new
@@ -43,7 +44,7 @@ module _ (file table tapes table′ tapes′ : List ℕ) (r : Sheet) (table-long
 
   -- an acceptance
   module _ (e : r .number ≡ 0) where
-    taken : refusal file (length table) (length tapes) ≡ 0
+    taken : numberRead file table tapes widths ≡ 0
     taken = sym (S .number) ∙ e
 
     file-sound : fileNumber file ≡ 0
@@ -77,11 +78,19 @@ module _ (file table tapes table′ tapes′ : List ℕ) (r : Sheet) (table-long
         ap (λ (l : List ℕ). take (2 * r .nodes) l) (S .tapes-after ∙ after-accepted _ (tapesOf file (nodesOf file)) tapes taken)
         ∙ take-overwrite (2 * r .nodes) (tapesOf file (nodesOf file)) tapes (pair-length 2 (nodesOf file) ∙ ap (λ (n : ℕ). 2 * n) (sym nodes-read))
 
-    same-text : tableText (r .separation) (take (2 * r .nodes) table′) (take (2 * r .nodes) tapes′) ≡ sheetText file
-    unfolding sheetText
-    same-text = rw (table-read, tapes-read, separation-read) (sym (text-granted (fileNumber file) _ file-sound))
+    widths-read : take (r .nodes) widths′ ≡ halfWidthsOf file (nodesOf file)
+    widths-read =
+        ap (λ (l : List ℕ). take (r .nodes) l) (S .half-widths-after ∙ after-accepted _ (halfWidthsOf file (nodesOf file)) widths taken)
+        ∙ take-overwrite (r .nodes) (halfWidthsOf file (nodesOf file)) widths (length-joined 1 (nodeSingle file 4) (λ k. refl) (nodesOf file) ∙ one (nodesOf file) ∙ sym nodes-read)
+      where
+        one : (n : ℕ) → 1 * n ≡ n
+        one n = omega arith
 
-    pub sheet-listed : {old new : List ℕ} {k : ℕ} → Printed (tableText (r .separation) (take (2 * r .nodes) table′) (take (2 * r .nodes) tapes′)) old k new
+    same-text : tableText (r .separation) (take (2 * r .nodes) table′) (take (2 * r .nodes) tapes′) (take (r .nodes) widths′) ≡ sheetText file
+    unfolding sheetText
+    same-text = rw (table-read, tapes-read, widths-read, separation-read) (sym (text-granted (fileNumber file) _ file-sound))
+
+    pub sheet-listed : {old new : List ℕ} {k : ℕ} → Printed (tableText (r .separation) (take (2 * r .nodes) table′) (take (2 * r .nodes) tapes′) (take (r .nodes) widths′)) old k new
         → Printed (sheetText file) old k new
     sheet-listed {old} {new} {k} p = subst (λ (x : List ℕ). Printed x old k new) same-text p
 

@@ -13,15 +13,16 @@ use lib.ListN.{length, take}
 use borrow.Author.Tests.{le-leb}
 use Rattle.refusal.specs.After.{granted}
 use Rattle.refusal.proofs.After.{granted-accepted, after-accepted, take-overwrite}
+use Rattle.distance.specs.Needed.{needed}
 use Rattle.tree.specs.Table.{nodes}
 use Rattle.tree.specs.Levels.{levelCount}
 use Rattle.tree.specs.WellFormed.{tableNumber}
 use Rattle.tree.proofs.Stands.{accepted-numbers, accepted-length}
 use Rattle.rule.specs.Result.{Slices, Answer, Layout, layoutNumber, placesOf, levelsOf, leastOf, greatestOf}
-use Rattle.layout.proofs.Answers.{least-small, greatest-small, length-places, length-levels}
+use Rattle.layout.proofs.Answers.{Taken, taken, least-fits, greatest-fits, length-places, length-levels}
 use Rattle.lines.specs.Listing.{listing, refusedLine}
 use Rattle.lines.specs.Printed.{mostNodes, refusalRoom, listingRoom, printable, when, Printed, ListingPrinted, RefusalPrinted}
-use Rattle.render.specs.Text.{textRoom, drawnListing, tableText}
+use Rattle.render.specs.Text.{textRoom, drawnListing, drawingNumber, tableText}
 use Rattle.render.proofs.Numbers.{table-decides, text-refused, text-granted}
 
 -- a text that is printed where a test holds
@@ -42,29 +43,35 @@ pub record Ample (s : Slices) : Type 0 where
   pub measured : 2048 ≤ length (s .theRecord)
   pub work : 16384 ≤ length (s .work)
 
-module _ (t : List ℕ) (D : ℕ) (some : 1 ≤ D) (small : D ≤ 1024) (tapes : List ℕ) (s u : Slices) (a : Answer) (L : Layout t D s a u) (ample : Ample s) where
-  decides : layoutNumber t D s ≡ tableNumber t
-  decides = table-decides t D s some small (ample .places) (ample .levels) (ample .measured) (ample .work)
+module _ (t : List ℕ) (D : ℕ) (some : 1 ≤ D) (small : D ≤ 1024) (tapes hs : List ℕ) (s u : Slices) (a : Answer) (L : Layout t D hs s a u) (ample : Ample s) where
+  abbrev places : List ℤ
+  places = placesOf (needed D hs) t
 
-  pub number-decided : a .number ≡ tableNumber t
+  decides : layoutNumber t D hs s ≡ drawingNumber t hs
+  decides = table-decides t D hs s some small (ample .places) (ample .levels) (ample .measured) (ample .work)
+
+  pub number-decided : a .number ≡ drawingNumber t hs
   number-decided = L .number ∙ decides
 
   -- a refusal
   pub refused-listed : {old new : List ℕ} {k : ℕ} → textRoom ≤ length old → (a .number ≡ 0 → ⊥) → RefusalPrinted (a .number) old k new
-      → Printed (tableText D t tapes) old k new
+      → Printed (tableText D t tapes hs) old k new
   unfolding tableText
   refused-listed room h p =
-      refusal-shown (a .number) room (ap refusedLine number-decided ∙ sym (text-refused (tableNumber t) (drawnListing D t tapes) (λ e. h (number-decided ∙ e)))) p
+      refusal-shown (a .number) room (ap refusedLine number-decided ∙ sym (text-refused (drawingNumber t hs) (drawnListing D t tapes hs) (λ e. h (number-decided ∙ e)))) p
 
   -- an acceptance
   module _ (e : a .number ≡ 0) where
-    accepted : layoutNumber t D s ≡ 0
+    accepted : layoutNumber t D hs s ≡ 0
     accepted = sym (L .number) ∙ e
 
-    well-formed : tableNumber t ≡ 0
-    well-formed = sym number-decided ∙ e
+    T : Taken t D hs s
+    T = taken t D hs s accepted
 
-    given : {A : Type 0} {x : A} (y z : A) → x ≡ granted (layoutNumber t D s) y z → x ≡ y
+    well-formed : tableNumber t ≡ 0
+    well-formed = T .table
+
+    given : {A : Type 0} {x : A} (y z : A) → x ≡ granted (layoutNumber t D hs s) y z → x ≡ y
     given y z h = h ∙ granted-accepted _ y z accepted
 
     nodes-given : a .nodes ≡ nodes t
@@ -78,12 +85,12 @@ module _ (t : List ℕ) (D : ℕ) (some : 1 ≤ D) (small : D ≤ 1024) (tapes :
         ap (λ (l : List ℕ). take (a .nodes) l) (L .levels ∙ after-accepted _ (levelsOf t) (s .levels) accepted)
         ∙ take-overwrite (a .nodes) (levelsOf t) (s .levels) (length-levels t ∙ sym nodes-given)
 
-    places-listed : take (a .nodes) (u .places) ≡ placesOf D t
+    places-listed : take (a .nodes) (u .places) ≡ places
     places-listed =
-        ap (λ (l : List ℤ). take (a .nodes) l) (L .places ∙ after-accepted _ (placesOf D t) (s .places) accepted)
-        ∙ take-overwrite (a .nodes) (placesOf D t) (s .places) (length-places D t ∙ sym nodes-given)
+        ap (λ (l : List ℤ). take (a .nodes) l) (L .places ∙ after-accepted _ (places) (s .places) accepted)
+        ∙ take-overwrite (a .nodes) (places) (s .places) (length-places (needed D hs) t ∙ sym nodes-given)
 
-    same-listing : listing (a .nodes) (a .levels) D (a .least) (a .greatest) (take (a .nodes) (u .levels)) (take (a .nodes) (u .places)) tapes ≡ tableText D t tapes
+    same-listing : listing (a .nodes) (a .levels) D (a .least) (a .greatest) (take (a .nodes) (u .levels)) (take (a .nodes) (u .places)) tapes ≡ tableText D t tapes hs
     unfolding tableText drawnListing
     same-listing =
         rw (
@@ -91,10 +98,10 @@ module _ (t : List ℕ) (D : ℕ) (some : 1 ≤ D) (small : D ≤ 1024) (tapes :
           places-listed,
           nodes-given,
           given (levelCount t) 0 (L .levelCount),
-          given (leastOf (placesOf D t)) (pos 0) (L .least),
-          given (greatestOf (placesOf D t)) (pos 0) (L .greatest),
+          given (leastOf (places)) (pos 0) (L .least),
+          given (greatestOf (places)) (pos 0) (L .greatest),
         )
-        (sym (text-granted (tableNumber t) (drawnListing D t tapes) well-formed))
+        (sym (text-granted (drawingNumber t hs) (drawnListing D t tapes hs) (sym number-decided ∙ e)))
 
     -- the writer's test holds
     can-print : {bytes : ℕ} → textRoom ≤ bytes → length t ≤ length tapes
@@ -102,7 +109,7 @@ module _ (t : List ℕ) (D : ℕ) (some : 1 ≤ D) (small : D ≤ 1024) (tapes :
     can-print {bytes} room tapes-enough =
         let n = a .nodes in
         let levels-enough : n ≤ length (take n (u .levels)) = omega (arith, nodes-given, ap length levels-listed, length-levels t) in
-        let places-enough : n ≤ length (take n (u .places)) = omega (arith, nodes-given, ap length places-listed, length-places D t) in
+        let places-enough : n ≤ length (take n (u .places)) = omega (arith, nodes-given, ap length places-listed, length-places (needed D hs) t) in
         let tapes-long : 2 * n ≤ length tapes = omega (arith, nodes-given, tapes-enough, accepted-length t well-formed) in
         let bytes-enough : listingRoom n ≤ bytes = omega (arith, room, few) in
         simp (le-leb n mostNodes few, le-leb n _ levels-enough, le-leb n _ places-enough, le-leb (2 * n) _ tapes-long, le-leb (listingRoom n) bytes bytes-enough)
@@ -111,17 +118,17 @@ module _ (t : List ℕ) (D : ℕ) (some : 1 ≤ D) (small : D ≤ 1024) (tapes :
     least-kept : toZ w32 (ofZ w32 (a .least)) ≡ a .least
     least-kept =
         toZ-ofZ w32 (a .least)
-        (record { sfits = subst (λ (x : ℤ). mag x < 2 ^ 31) (sym (given (leastOf (placesOf D t)) (pos 0) (L .least))) (least-small D t well-formed small) })
+        (record { sfits = subst (λ (x : ℤ). mag x < 2 ^ 31) (sym (given (leastOf (places)) (pos 0) (L .least))) (least-fits t D hs s accepted) })
 
     greatest-kept : toZ w32 (ofZ w32 (a .greatest)) ≡ a .greatest
     greatest-kept =
         toZ-ofZ w32 (a .greatest)
-        (record { sfits = subst (λ (x : ℤ). mag x < 2 ^ 31) (sym (given (greatestOf (placesOf D t)) (pos 0) (L .greatest))) (greatest-small D t well-formed small) })
+        (record { sfits = subst (λ (x : ℤ). mag x < 2 ^ 31) (sym (given (greatestOf (places)) (pos 0) (L .greatest))) (greatest-fits t D hs s accepted) })
 
     pub accepted-listed : {old new : List ℕ} {k : ℕ} → textRoom ≤ length old → length t ≤ length tapes
         → ListingPrinted (a .nodes) (a .levels) D (toZ w32 (ofZ w32 (a .least))) (toZ w32 (ofZ w32 (a .greatest))) (take (a .nodes) (u .levels))
         (take (a .nodes) (u .places)) tapes old k new
-        → Printed (tableText D t tapes) old k new
+        → Printed (tableText D t tapes hs) old k new
     accepted-listed room tapes-enough p =
         shown (can-print room tapes-enough)
         (ap₂ (λ (x y : ℤ). listing (a .nodes) (a .levels) D x y (take (a .nodes) (u .levels)) (take (a .nodes) (u .places)) tapes) least-kept greatest-kept

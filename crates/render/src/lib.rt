@@ -7,12 +7,18 @@ ghost use Rattle.render.specs.Text.{textRoom, tableText, SheetListed};
 const TEXT_ROOM: usize = 41024;
 
 // Lays a table out and writes its listing, or the line of its refusal.
-fn list_table(table: &[u16], separation: u16, tapes: &[u16], out: &mut [u8]) -> usize
+fn list_table(
+    table: &[u16],
+    separation: u16,
+    tapes: &[u16],
+    widths: &[u16],
+    out: &mut [u8],
+) -> usize
     requires { ⌜ 1 ≤ separation ⌝ }
     requires { ⌜ separation ≤ 1024 ⌝ }
     requires { ⌜ length (now table) ≤ length (now tapes) ⌝ }
     requires { ⌜ textRoom ≤ length (now out) ⌝ }
-    ensures { λ r. ⌜ Printed (tableText separation (now (table .entry)) (now (tapes .entry))) (now (out .entry)) r (now (out .exit)) ⌝ }
+    ensures { λ r. ⌜ Printed (tableText separation (now (table .entry)) (now (tapes .entry)) (now (widths .entry))) (now (out .entry)) r (now (out .exit)) ⌝ }
 {
     let mut places = [0i32; 1024];
     let mut levels = [0u16; 1024];
@@ -21,6 +27,7 @@ fn list_table(table: &[u16], separation: u16, tapes: &[u16], out: &mut [u8]) -> 
     let drawn = layout::layout(
         table,
         separation,
+        widths,
         &mut places,
         &mut levels,
         &mut measured,
@@ -53,10 +60,18 @@ pub fn list_sheet(file: &[u8], out: &mut [u8]) -> usize
     }
     let mut table = [0u16; 2048];
     let mut tapes = [0u16; 2048];
-    let sheet = sheet::read_sheet(file, &mut table, &mut tapes);
+    let mut widths = [0u16; 1024];
+    let sheet = sheet::read_sheet(file, &mut table, &mut tapes, &mut widths);
     if sheet.number != 0 {
         return lines::write_refusal(sheet.number, out);
     }
-    let entries = 2 * sheet.nodes as usize;
-    list_table(&table[..entries], sheet.separation, &tapes[..entries], out)
+    let n = sheet.nodes as usize;
+    let entries = 2 * n;
+    list_table(
+        &table[..entries],
+        sheet.separation,
+        &tapes[..entries],
+        &widths[..n],
+        out,
+    )
 }

@@ -7,11 +7,12 @@ use native.Mathlib.Nat.{le-refl, le-trans, not-suc-le-zero, add-zero}
 use native.Mathlib.Omega.{arith}
 use lib.IntN.{ℤ, pos, _+ℤ_}
 use lib.ListN.{length, drop}
+use Rattle.distance.specs.Needed.{Distance}
 use Rattle.tree.specs.Forest.{Forest, nil, node}
 use Rattle.rule.specs.Rule.{drawOnto, draw}
 use Rattle.tree.proofs.Counting.{All}
 use Rattle.rule.specs.Drawing.{Drawing, none, at, width, Dot, dot, dots, rowDots, lastOf, leftContour, rightContour}
-use Rattle.rule.specs.Join.{Meeting, needed, shortfall, meet, shares, total, spread, start, alone, rowContour, newContour, join}
+use Rattle.rule.specs.Join.{Meeting, shortfall, meet, shares, total, spread, start, alone, rowContour, newContour, join}
 use Rattle.rule.specs.AtOnce.{Joining, withChild, step, walkDown, joinAtOnce, drawOntoAtOnce}
 use Rattle.rule.proofs.Signed.{parts-add, parts-eq}
 use Rattle.tree.proofs.Joined.{Some}
@@ -87,7 +88,7 @@ contour-shift : (c : ℤ) (ys : List (List Dot)) → All Some ys → leftContour
 contour-shift c [] s = refl
 contour-shift c (y ∷ ys) s = ap₂ (λ (e : Dot) (r : List Dot). e ∷ r) (first-map (shiftBy c) y (s .0)) (contour-shift c ys (s .1))
 
-module _ (D : ℕ) (row : Drawing) (v : ℕ) (below : Drawing) (R : Row D (width row) (rowDots 0 row)) (B : Row D (width below) (rowDots 0 below)) where
+module _ (D : Distance) (row : Drawing) (v : ℕ) (below : Drawing) (R : Row D (width row) (rowDots 0 row)) (B : Row D (width below) (rowDots 0 below)) where
   -- the row and the child after some meetings
   abbrev after : List Meeting → Joining
   after ps = record { row = spread (width row) ps 0 row; place = start D row v + total ps }
@@ -148,7 +149,7 @@ module _ (D : ℕ) (row : Drawing) (v : ℕ) (below : Drawing) (R : Row D (width
       ∙ ap after (ap (λ (T : ℕ). ps ++ (m ∷ []) ++ meet D T us ws) grown ∙ append-assoc ps (m ∷ []) (meet D (total ps + m .amount) us ws))
     where
       m : Meeting
-      m = record { child = a .child; amount = shortfall (needed D (a .node) (b .node)) (a .place) (b .place +ℤ pos (total ps)) }
+      m = record { child = a .child; amount = shortfall (D (a .node) (b .node)) (a .place) (b .place +ℤ pos (total ps)) }
 
       grown : total (ps ++ (m ∷ [])) ≡ total ps + m .amount
       grown = omega (arith, total-append ps (m ∷ []))
@@ -171,7 +172,7 @@ module _ (D : ℕ) (row : Drawing) (v : ℕ) (below : Drawing) (R : Row D (width
       (descending (width row) (rowDots 0 row) (R .falling)) (λ p h. refl))
 
 -- and so are the drawings
-draw-onto : (D : ℕ) (row : Drawing) (f : Forest) → Row D (width row) (rowDots 0 row) → drawOntoAtOnce D row f ≡ drawOnto D row f
+draw-onto : (D : Distance) (row : Drawing) (f : Forest) → Row D (width row) (rowDots 0 row) → drawOntoAtOnce D row f ≡ drawOnto D row f
 draw-onto D row nil R = refl
 draw-onto D row (node v f g) R =
     let B = row-drawOnto D none f (row-none D) in
@@ -179,5 +180,5 @@ draw-onto D row (node v f g) R =
     ∙ ap (λ (d : Drawing). drawOntoAtOnce D d g) (join-at-once D row v (drawOnto D none f) R B)
     ∙ draw-onto D (join D row v (drawOnto D none f)) g (row-join D row v (drawOnto D none f) R B)
 
-pub draw-at-once : (D : ℕ) (f : Forest) → drawOntoAtOnce D none f ≡ draw D f
+pub draw-at-once : (D : Distance) (f : Forest) → drawOntoAtOnce D none f ≡ draw D f
 draw-at-once D f = draw-onto D none f (row-none D)

@@ -1,10 +1,11 @@
--- The sheets P1 to P12: for each its table and separation, and the whole of what a layout gives for it, every slice entry for entry, checked
+-- The sheets P1 to P12 and one with wide labels: for each its table, separation and half-widths, and the whole of what a layout gives for it, every slice entry for entry, checked
 -- by one computation. Assumes nothing.
 use mathlib.Core.Path.{_≡_, refl}
 use mathlib.Core.List.{List, [], _∷_, _++_, map}
 use Prim.Native.Nat.{ℕ, zero, suc, _+_, _*_}
 use lib.IntN.{ℤ, pos, negℤ}
 use lib.ListN.{replicate}
+use Rattle.distance.specs.Needed.{badSeparation, badHalfWidths}
 use Rattle.tree.specs.Table.{none, nodes}
 use Rattle.tree.specs.Forest.{forest, treeOf}
 use Rattle.tree.specs.Levels.{level, levelCount, neighbours}
@@ -12,12 +13,13 @@ use Rattle.tree.specs.WellFormed.{badLength, badEntry, rootHasSibling, namedTwi
 use Rattle.refusal.specs.After.{overwrite, after}
 use Rattle.rule.specs.Join.{evenly}
 use Rattle.rule.specs.Rule.{drawn}
-use Rattle.rule.specs.Result.{place, placesOf, levelsOf, Slices, Answer, Layout, badSeparation, shortResults, shortWork, layoutNumber}
+use Rattle.rule.specs.Result.{place, placesOf, levelsOf, Slices, Answer, Layout, shortResults, shortWork, layoutNumber}
 use Rattle.rule.proofs.Fixed.{answered, returned, fixed}
 
 pub record Sheet : Type 0 where
   pub table : List ℕ
   pub separation : ℕ
+  pub halfWidths : List ℕ
 
 -- what a call gives: its answer, and the slices afterwards
 pub record Outcome : Type 0 where
@@ -32,10 +34,14 @@ pub outcome : Sheet → Outcome
 unfolding lent
 outcome s =
     let given = lent (nodes (s .table)) in
-    record { answer = answered (s .table) (s .separation) given; slices = returned (s .table) (s .separation) given }
+    record {
+      answer = answered (s .table) (s .separation) (s .halfWidths) given;
+      slices = returned (s .table) (s .separation) (s .halfWidths) given;
+    }
 
+-- a sheet whose half-widths are 0
 sheet : List ℕ → ℕ → Sheet
-sheet t D = record { table = t; separation = D }
+sheet t D = record { table = t; separation = D; halfWidths = replicate (nodes t) 0 }
 
 refused : ℕ → ℕ → Outcome
 unfolding lent
@@ -130,12 +136,40 @@ expected =
     ∷ []
 
 pub checked : map outcome sheets ≡ expected
-unfolding outcome sheets expected drawing refused minus lent leaves inner outer sheet forest treeOf level levelCount neighbours badLength badEntry rootHasSibling namedTwice unnamed notReached tableConditions evenly drawn place placesOf levelsOf badSeparation shortResults shortWork layoutNumber overwrite after
+unfolding outcome sheets expected drawing refused minus lent leaves inner outer sheet forest treeOf level levelCount neighbours badLength badEntry rootHasSibling namedTwice unnamed notReached tableConditions evenly drawn place placesOf levelsOf badSeparation badHalfWidths shortResults shortWork layoutNumber overwrite after
 checked = refl
 
 -- whatever meets the layout's contract gives that outcome
-pub called : (s : Sheet) (a : Answer) (u : Slices) → Layout (s .table) (s .separation) (lent (nodes (s .table))) a u → record { answer = a; slices = u } ≡ outcome s
+pub called : (s : Sheet) (a : Answer) (u : Slices) → Layout (s .table) (s .separation) (s .halfWidths) (lent (nodes (s .table))) a u → record { answer = a; slices = u } ≡ outcome s
 unfolding outcome
 called s a u L =
-    let f = fixed (s .table) (s .separation) (lent (nodes (s .table))) a u L in
+    let f = fixed (s .table) (s .separation) (s .halfWidths) (lent (nodes (s .table))) a u L in
     λ i. record { answer = f .0 i; slices = f .1 i }
+
+-- P6 with wide labels: node 7 needs 10 on either side, and where the two families meet nodes 6 and 10 need 11, a conflict of 6.
+pub wide : Sheet
+unfolding leaves
+wide =
+    record {
+      table = 1 ∷ none ∷ 2 ∷ 7 ∷ leaves 2 5 ++ (none ∷ 8 ∷ none ∷ 9 ∷ 10 ∷ none ∷ leaves 10 5);
+      separation = 4;
+      halfWidths = 0 ∷ 0 ∷ 0 ∷ 0 ∷ 0 ∷ 0 ∷ 2 ∷ 6 ∷ 0 ∷ 0 ∷ 5 ∷ 0 ∷ 0 ∷ 0 ∷ 0 ∷ [];
+    }
+
+pub wide-expected : Outcome
+unfolding drawing minus
+wide-expected =
+    drawing 15 3 (minus 24) (pos 26) 12
+    (pos 0 ∷ minus 15 ∷ minus 24 ∷ minus 20 ∷ minus 16 ∷ minus 12 ∷ minus 6 ∷ minus 3 ∷ pos 9 ∷ pos 15 ∷ pos 5 ∷ pos 14 ∷ pos 18 ∷ pos 22 ∷ pos 26 ∷ [])
+    (0 ∷ 1 ∷ 2 ∷ 2 ∷ 2 ∷ 2 ∷ 2 ∷ 1 ∷ 1 ∷ 1 ∷ 2 ∷ 2 ∷ 2 ∷ 2 ∷ 2 ∷ [])
+    (1 ∷ 7 ∷ 7 ∷ 8 ∷ 8 ∷ 9 ∷ 2 ∷ 3 ∷ 3 ∷ 4 ∷ 4 ∷ 5 ∷ 5 ∷ 6 ∷ 6 ∷ 10 ∷ 10 ∷ 11 ∷ 11 ∷ 12 ∷ 12 ∷ 13 ∷ 13 ∷ 14 ∷ [])
+
+pub wide-checked : outcome wide ≡ wide-expected
+unfolding outcome wide wide-expected drawing minus lent leaves inner outer forest treeOf level levelCount neighbours badLength badEntry rootHasSibling namedTwice unnamed notReached tableConditions evenly drawn place placesOf levelsOf badSeparation badHalfWidths shortResults shortWork layoutNumber overwrite after
+wide-checked = refl
+
+-- 17 is tried after 6 and before 7: a half-width of 257, and no room for results
+pub seventeen-tried : (layoutNumber (none ∷ none ∷ []) 0 (257 ∷ []) (lent 0) ≡ 6) × (layoutNumber (none ∷ none ∷ []) 1 (257 ∷ []) (lent 0) ≡ 17)
+    × (layoutNumber (none ∷ none ∷ []) 1 (256 ∷ 257 ∷ []) (lent 0) ≡ 7)
+unfolding lent forest treeOf badLength badEntry rootHasSibling namedTwice unnamed notReached tableConditions badSeparation badHalfWidths shortResults shortWork layoutNumber
+seventeen-tried = (refl, refl, refl)

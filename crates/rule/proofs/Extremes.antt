@@ -1,14 +1,16 @@
 -- The extremes of a table's drawing: the least and the greatest place bound every place, the root stands at 0 between them, and they lie at
--- most n - 1 separations apart, so that every place and every difference of two places is small. Assumes nothing.
+-- most n - 1 times apart what two nodes need, so that every place and every difference of two places is small. Assumes nothing.
 use mathlib.Core.Path.{_≡_, refl, sym, ap, _∙_, subst, subst₂}
 use mathlib.Core.Logic.{⊎-elim}
 use mathlib.Core.Bool.{Bool, true, false, cond}
 use mathlib.Core.List.{List, [], _∷_, _++_, map, List·Memᴰ·head}
-use Prim.Native.Nat.{ℕ, zero, suc, _-_, _*_, _≤_, _<_}
+use Prim.Native.Nat.{ℕ, zero, suc, _+_, _-_, _*_, _≤_, _<_}
 use native.Mathlib.Nat.{not-suc-le-zero, mul-le-mul-left, mul-le-mul-right, le-trans}
 use native.Mathlib.Omega.{arith}
 use lib.IntN.{ℤ, pos, _+ℤ_, _-ℤ_}
 use lib.Signed.{_≤ℤ_, leZ, mag}
+use Rattle.distance.specs.Needed.{Distance, needed, widest}
+use Rattle.distance.proofs.HalfWidths.{needed-at-most}
 use Rattle.tree.specs.Numbers.{upTo}
 use Rattle.tree.specs.Table.{nodes}
 use Rattle.tree.specs.Forest.{Forest, nil, node, treeOf, size, entry, siblings}
@@ -16,14 +18,16 @@ use Rattle.tree.specs.WellFormed.{tableNumber}
 use Rattle.tree.proofs.Counting.{All, all-map, all-weaken}
 use Rattle.tree.proofs.Tests.{all-upTo, upTo-all}
 use Rattle.tree.proofs.Stands.{accepted-numbers, accepted-size}
-use Rattle.rule.specs.Drawing.{dot, dots}
+use Rattle.rule.specs.Drawing.{Drawing, dot, dots}
 use Rattle.rule.specs.Rule.{draw, drawn}
 use Rattle.rule.specs.Result.{place, placesOf, lesser, greater, leastOf, greatestOf}
 use Rattle.rule.proofs.Signed.{one-part, parts-add, parts-sub, parts-eq, parts-le, AtMost, leZ-true, leZ-false, mag-parts}
 use Rattle.tree.proofs.Joined.{Some, some}
 use Rattle.rule.proofs.OnLevel.{OnLevel, top}
 use Rattle.rule.proofs.Lookup.{dot-place}
-use Rattle.rule.proofs.Width.{span, narrow-draw}
+use Rattle.rule.proofs.Width.{Narrow, span, narrow-draw}
+use Rattle.rule.proofs.Shapes.{needBy}
+use Rattle.rule.proofs.Own.{own, own-inside, draw-own}
 use Rattle.rule.proofs.Promises.{stands-at}
 
 -- ---- the least and the greatest of a list
@@ -93,7 +97,7 @@ some-places f (suc n) h = front (upTo n)
 
 -- ---- a table's drawing
 
-module _ (D : ℕ) (t : List ℕ) (accepted : tableNumber t ≡ 0) where
+module _ (D : Distance) (t : List ℕ) (accepted : tableNumber t ≡ 0) where
   few : 0 < nodes t
   few = accepted-numbers t accepted .some
 
@@ -106,17 +110,6 @@ module _ (D : ℕ) (t : List ℕ) (accepted : tableNumber t ≡ 0) where
       at-root nil e s = absurd (omega arith)
       at-root (node v f nil) e s = top (List·Memᴰ·head (ap (λ (w : ℕ). dot 0 w (pos 0)) (sym e)))
       at-root (node v f (node w g h)) e s = absurd (omega (arith, ap size s))
-
-  -- no node stands further than n - 1 separations right of another
-  pub places-near : (v w : ℕ) → v < nodes t → w < nodes t → AtMost (place D t v) (place D t w +ℤ pos (span D (nodes t)))
-  unfolding drawn
-  places-near v w hv hw =
-      let S = stands-at D t accepted v hv in
-      let R = stands-at D t accepted w hw in
-      subst₂ (λ (x y : ℤ). AtMost x (y +ℤ pos (span D (nodes t)))) (sym (dot-place D t accepted (dot 0 v (S .place)) (S .level) (S .root)))
-      (sym (dot-place D t accepted (dot 0 w (R .place)) (R .level) (R .root)))
-      (subst (λ (k : ℕ). AtMost (S .place) (R .place +ℤ pos (span D k))) (accepted-size t accepted)
-      (narrow-draw D 0 (pos 0) (treeOf t) (dot 0 v (S .place)) (dot 0 w (R .place)) (S .level) (R .level) (S .root) (R .root)))
 
   pub least-bounds : (v : ℕ) → v < nodes t → leastOf (placesOf D t) ≤ℤ place D t v
   unfolding placesOf
@@ -145,36 +138,59 @@ module _ (D : ℕ) (t : List ℕ) (accepted : tableNumber t ≡ 0) where
   pub greatest-at-least-0 : pos 0 ≤ℤ greatestOf (placesOf D t)
   greatest-at-least-0 = subst (λ (x : ℤ). x ≤ℤ greatestOf (placesOf D t)) root-place (greatest-bounds 0 few)
 
-  -- the whole drawing is at most n - 1 separations wide
-  pub width-bound : greatestOf (placesOf D t) ≤ℤ (leastOf (placesOf D t) +ℤ pos ((nodes t - 1) * D))
-  width-bound =
-      let g = greatest-met in
-      let l = least-met in
-      rw (← g .2, ← l .2, ← span-is (nodes t)) (parts-le _ _ (places-near (g .0) (l .0) (g .1) (l .1)))
-    where
-      span-is : (n : ℕ) → span D n ≡ (n - 1) * D
-      span-is zero = omega arith
-      span-is (suc n) = let less : n ≡ suc n - 1 = omega arith in ap (λ (k : ℕ). k * D) less
+  -- Where no two of the table's nodes need more than W,
+  module _ (W : ℕ) (most : (a b : ℕ) → a < nodes t → b < nodes t → D a b ≤ W) where
+    -- none stands further than n - 1 times W right of another
+    pub places-near : (v w : ℕ) → v < nodes t → w < nodes t → AtMost (place D t v) (place D t w +ℤ pos (span W (nodes t)))
+    unfolding drawn
+    places-near v w hv hw =
+        let S = stands-at D t accepted v hv in
+        let R = stands-at D t accepted w hw in
+        subst₂ (λ (x y : ℤ). AtMost x (y +ℤ pos (span W (nodes t)))) (sym (dot-place D t accepted (dot 0 v (S .place)) (S .level) (S .root)))
+        (sym (dot-place D t accepted (dot 0 w (R .place)) (R .level) (R .root)))
+        (subst (λ (k : ℕ). AtMost (S .place) (R .place +ℤ pos (span W k))) (accepted-size t accepted)
+        (near (dot 0 v (S .place)) (dot 0 w (R .place)) (S .level) (R .level) (S .root) (R .root)))
+      where
+        near : Narrow (span W (size (treeOf t))) (dots 0 (pos 0) (draw D (treeOf t)))
+        near =
+            subst (λ (d : Drawing). Narrow (span W (size (treeOf t))) (dots 0 (pos 0) d)) (sym (draw-own t accepted D))
+            (narrow-draw (needBy (own (nodes t)) D) W (λ a b. most (own (nodes t) a) (own (nodes t) b) (own-inside t accepted a) (own-inside t accepted b)) 0 (pos 0) (treeOf t))
 
-  -- every place, and every difference of two places, is at most 1,023 * 1,024 in size
-  pub small-difference : D ≤ 1024 → (v w : ℕ) → v < nodes t → w < nodes t → mag (place D t v -ℤ place D t w) ≤ 1047552
-  small-difference hD v w hv hw =
-      let wide = bound (nodes t) (accepted-numbers t accepted .few) in
-      let difference = parts-sub (place D t v) (place D t w) in
-      let right = places-near v w hv hw in
-      let left = places-near w v hw hv in
-      let past-right = parts-add (place D t w) (pos (span D (nodes t))) in
-      let past-left = parts-add (place D t v) (pos (span D (nodes t))) in
-      let fits = mag-parts (place D t v -ℤ place D t w) 1047552 in
-      ⊎-elim (λ z. fits (omega arith) (omega arith)) (λ z. fits (omega arith) (omega arith)) (one-part (place D t v -ℤ place D t w))
-    where
-      bound : (n : ℕ) → n ≤ 1024 → span D n ≤ 1047552
-      bound zero h = omega arith
-      bound (suc n) h = let small : n ≤ 1023 = omega arith in le-trans (mul-le-mul-right D small) (mul-le-mul-left 1023 hD)
+    -- so the whole drawing is at most n - 1 times W wide
+    pub width-bound : greatestOf (placesOf D t) ≤ℤ (leastOf (placesOf D t) +ℤ pos ((nodes t - 1) * W))
+    width-bound =
+        let g = greatest-met in
+        let l = least-met in
+        rw (← g .2, ← l .2, ← span-is (nodes t)) (parts-le _ _ (places-near (g .0) (l .0) (g .1) (l .1)))
+      where
+        span-is : (n : ℕ) → span W n ≡ (n - 1) * W
+        span-is zero = omega arith
+        span-is (suc n) = let less : n ≡ suc n - 1 = omega arith in ap (λ (k : ℕ). k * W) less
 
-  pub small-place : D ≤ 1024 → (v : ℕ) → v < nodes t → mag (place D t v) ≤ 1047552
-  small-place hD v h =
-      subst (λ (z : ℤ). mag z ≤ 1047552) (ap (λ (x : ℤ). place D t v -ℤ x) root-place ∙ less-zero (place D t v)) (small-difference hD v 0 h few)
-    where
-      less-zero : (z : ℤ) → z -ℤ pos 0 ≡ z
-      less-zero z = parts-eq (z -ℤ pos 0) z (omega (arith, parts-sub z (pos 0)))
+    -- and every place, and every difference of two places, is at most 1,023 * 1,536 in size
+    pub small-difference : W ≤ 1536 → (v w : ℕ) → v < nodes t → w < nodes t → mag (place D t v -ℤ place D t w) ≤ 1571328
+    small-difference hW v w hv hw =
+        let wide = bound (nodes t) (accepted-numbers t accepted .few) in
+        let difference = parts-sub (place D t v) (place D t w) in
+        let right = places-near v w hv hw in
+        let left = places-near w v hw hv in
+        let past-right = parts-add (place D t w) (pos (span W (nodes t))) in
+        let past-left = parts-add (place D t v) (pos (span W (nodes t))) in
+        let fits = mag-parts (place D t v -ℤ place D t w) 1571328 in
+        ⊎-elim (λ z. fits (omega arith) (omega arith)) (λ z. fits (omega arith) (omega arith)) (one-part (place D t v -ℤ place D t w))
+      where
+        bound : (n : ℕ) → n ≤ 1024 → span W n ≤ 1571328
+        bound zero h = omega arith
+        bound (suc n) h = let small : n ≤ 1023 = omega arith in le-trans (mul-le-mul-right W small) (mul-le-mul-left 1023 hW)
+
+    pub small-place : W ≤ 1536 → (v : ℕ) → v < nodes t → mag (place D t v) ≤ 1571328
+    small-place hW v h =
+        subst (λ (z : ℤ). mag z ≤ 1571328) (ap (λ (x : ℤ). place D t v -ℤ x) root-place ∙ less-zero (place D t v)) (small-difference hW v 0 h few)
+      where
+        less-zero : (z : ℤ) → z -ℤ pos 0 ≡ z
+        less-zero z = parts-eq (z -ℤ pos 0) z (omega (arith, parts-sub z (pos 0)))
+
+-- a sheet's drawing is at most n - 1 times the sum of the separation and twice the greatest half-width wide
+pub sheet-width : (D : ℕ) (hs t : List ℕ) → tableNumber t ≡ 0
+    → greatestOf (placesOf (needed D hs) t) ≤ℤ (leastOf (placesOf (needed D hs) t) +ℤ pos ((nodes t - 1) * (D + 2 * widest (nodes t) hs)))
+sheet-width D hs t accepted = width-bound (needed D hs) t accepted (D + 2 * widest (nodes t) hs) (needed-at-most hs D (nodes t))

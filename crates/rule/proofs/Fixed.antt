@@ -6,35 +6,37 @@ use Prim.Native.Nat.{ℕ, _*_}
 use lib.IntN.{pos}
 use lib.ListN.{length, replicate}
 use Rattle.refusal.specs.After.{granted, after}
+use Rattle.distance.specs.Needed.{needed}
 use Rattle.tree.specs.Table
 use Rattle.tree.specs.Levels.{levelCount, neighbours}
 use Rattle.rule.specs.Record.{flat}
 use Rattle.rule.specs.Result.{Slices, Answer, Layout, layoutNumber, placesOf, levelsOf, leastOf, greatestOf}
 
-abbrev pub answered : List ℕ → ℕ → Slices → Answer
-answered t D s =
-    let k = layoutNumber t D s in
+abbrev pub answered : List ℕ → ℕ → List ℕ → Slices → Answer
+answered t D hs s =
+    let k = layoutNumber t D hs s in
     record {
       number = k;
       nodes = granted k (Table.nodes t) 0;
       levels = granted k (levelCount t) 0;
-      least = granted k (leastOf (placesOf D t)) (pos 0);
-      greatest = granted k (greatestOf (placesOf D t)) (pos 0);
+      least = granted k (leastOf (placesOf (needed D hs) t)) (pos 0);
+      greatest = granted k (greatestOf (placesOf (needed D hs) t)) (pos 0);
       pairs = granted k (length (neighbours t)) 0;
     }
 
-abbrev pub returned : List ℕ → ℕ → Slices → Slices
-returned t D s =
-    let k = layoutNumber t D s in
+abbrev pub returned : List ℕ → ℕ → List ℕ → Slices → Slices
+returned t D hs s =
+    let k = layoutNumber t D hs s in
     record {
-      places = after k (placesOf D t) (s .places);
+      places = after k (placesOf (needed D hs) t) (s .places);
       levels = after k (levelsOf t) (s .levels);
       theRecord = after k (flat (neighbours t)) (s .theRecord);
       work = after k (replicate (16 * Table.nodes t) (pos 0)) (s .work);
     }
 
-pub fixed : (t : List ℕ) (D : ℕ) (s : Slices) (a : Answer) (u : Slices) → Layout t D s a u → (a ≡ answered t D s) × (u ≡ returned t D s)
-fixed t D s a u L = (
+pub fixed : (t : List ℕ) (D : ℕ) (hs : List ℕ) (s : Slices) (a : Answer) (u : Slices) → Layout t D hs s a u
+    → (a ≡ answered t D hs s) × (u ≡ returned t D hs s)
+fixed t D hs s a u L = (
   (λ i. record {
     number = L .number i;
     nodes = L .nodes i;

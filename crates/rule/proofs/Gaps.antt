@@ -7,9 +7,10 @@ use native.Mathlib.Nat.{zero-add}
 use native.Mathlib.Omega.{arith}
 use lib.IntN.{ℤ, pos, _+ℤ_, _-ℤ_, +ℤ-idr}
 use lib.ListN.{drop}
+use Rattle.distance.specs.Needed.{Distance}
 use Rattle.tree.proofs.Counting.{All, all-map, sumBelow, is-cases, below-or-not}
 use Rattle.rule.specs.Drawing.{Drawing, none, at, width, placeAt, middle, Dot, dot, dots, rowDots, lastOf, leftContour}
-use Rattle.rule.specs.Join.{Meeting, needed, shortfall, remainder, evenly, share, alone, rowContour}
+use Rattle.rule.specs.Join.{Meeting, shortfall, remainder, evenly, share, alone, rowContour}
 use Rattle.rule.specs.AtOnce.{Joining, withChild, step, walkLevel}
 use Rattle.rule.specs.Gaps.{gapBefore, growth}
 use Rattle.rule.proofs.Signed.{parts-add, parts-sub, parts-eq}
@@ -85,11 +86,11 @@ gap-moved d e p x y g behind before more =
     ))
 
 -- On level l of the walk the nodes a and b are met, with what is left of the two contours from there on.
-module _ (D l v : ℕ) (s : Joining) (below : Drawing) (a b : Dot) (us ws : List Dot) (left : drop l (rowContour (s .row)) ≡ a ∷ us)
+module _ (D : Distance) (l v : ℕ) (s : Joining) (below : Drawing) (a b : Dot) (us ws : List Dot) (left : drop l (rowContour (s .row)) ≡ a ∷ us)
     (right : drop l (leftContour (dots (width (s .row)) (pos 0) (alone v (s .place) below))) ≡ b ∷ ws) where
   -- by how much the two nodes are too close, and how many gaps there are between the children
   abbrev pub amount : ℕ
-  amount = shortfall (needed D (a .node) (b .node)) (a .place) (b .place)
+  amount = shortfall (D (a .node) (b .node)) (a .place) (b .place)
 
   abbrev pub gaps : ℕ
   gaps = width (s .row) - a .child

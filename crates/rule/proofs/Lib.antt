@@ -18,6 +18,7 @@ pub mod Lookup
 pub mod Exact
 pub mod Led
 pub mod Width
+pub mod Own
 pub mod Promises
 pub mod ReadingOrder
 pub mod SideBySide
@@ -26,6 +27,5 @@ pub mod Tight
 pub mod Extremes
 pub mod AtOnce
 pub mod Gaps
-pub mod Separation
 pub mod Fixed
 pub mod Cases

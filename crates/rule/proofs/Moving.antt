@@ -6,6 +6,7 @@ use Prim.Native.Nat.{ℕ, zero, suc, _+_, _<_}
 use native.Mathlib.Nat.{not-suc-le-zero, add-zero, zero-add}
 use native.Mathlib.Omega.{arith}
 use lib.IntN.{ℤ, pos, negℤ, _+ℤ_, _-ℤ_}
+use Rattle.distance.specs.Needed.{Distance}
 use Rattle.tree.specs.Levels.{beside}
 use Rattle.tree.proofs.Joined.{beside-assoc, beside-nil, map-beside}
 use Rattle.rule.specs.Drawing.{Drawing, none, at, width, append, placeAt, middle, Dot, dot, dots, rowDots}
@@ -111,7 +112,7 @@ spread-place j ms q (at v x below after) (suc p) h =
 
 -- ---- a join
 
-pub width-join : (D : ℕ) (row : Drawing) (v : ℕ) (below : Drawing) → width (join D row v below) ≡ suc (width row)
+pub width-join : (D : Distance) (row : Drawing) (v : ℕ) (below : Drawing) → width (join D row v below) ≡ suc (width row)
 width-join D row v below =
     omega (
       arith,
@@ -120,7 +121,7 @@ width-join D row v below =
     )
 
 -- the levels after a join: those of the row, each child moved by its shares, beside those of the new child, moved by the total
-pub rowDots-join : (D : ℕ) (row : Drawing) (v : ℕ) (below : Drawing)
+pub rowDots-join : (D : Distance) (row : Drawing) (v : ℕ) (below : Drawing)
     → rowDots 0 (join D row v below)
     ≡ beside (map (map (moveBy (shares (width row) (meetings D row v below)))) (rowDots 0 row))
     (map (map (shiftBy (pos (total (meetings D row v below))))) (dots (width row) (pos 0) (alone v (start D row v) below)))

@@ -5,6 +5,7 @@ use mathlib.Core.List.{List, [], _∷_, _++_, map}
 use Prim.Native.Nat.{ℕ, _+_}
 use native.Mathlib.Omega.{arith}
 use lib.IntN.{pos}
+use Rattle.distance.specs.Needed.{Distance}
 use Rattle.tree.specs.Numbers.{flatMap}
 use Rattle.tree.specs.Forest.{Forest, nil, node}
 use Rattle.tree.specs.Levels.{beside, levels, sideBySide, Pair}
@@ -73,7 +74,7 @@ pairs-beside w (x ∷ xs) (y ∷ ys) s t =
 
 -- ---- joining measures the pairs between the row and the new child
 
-measured-seams : (D : ℕ) (row : Drawing) (v : ℕ) (below : Drawing)
+measured-seams : (D : Distance) (row : Drawing) (v : ℕ) (below : Drawing)
     → measured D row v below ≡ seams (levels (names row)) (levels (node v (names below) nil))
 measured-seams D row v below =
     measure-seams (rowDots 0 row) (dots (width row) (pos 0) (at v (start D row v) below none))
@@ -83,7 +84,7 @@ measured-seams D row v below =
 abbrev pairsOf : Drawing → List Pair
 pairsOf d = pairsIn (levels (names d))
 
-pairs-join : (w : Pair → ℕ) (D : ℕ) (row : Drawing) (v : ℕ) (below : Drawing)
+pairs-join : (w : Pair → ℕ) (D : Distance) (row : Drawing) (v : ℕ) (below : Drawing)
     → sumOver w (pairsOf (join D row v below)) ≡ sumOver w (pairsOf row) + sumOver w (measured D row v below) + sumOver w (pairsOf below)
 pairs-join w D row v below =
     ap (λ (f : Forest). sumOver w (pairsIn (levels f))) (names-join D row v below)
@@ -95,7 +96,7 @@ pairs-join w D row v below =
       ap (λ (l : List (List ℕ)). sumOver w (pairsIn l)) (beside-nil ((v ∷ []) ∷ levels (names below))),
     )
 
-pub pairs-record : (w : Pair → ℕ) (D : ℕ) (row : Drawing) (f : Forest)
+pub pairs-record : (w : Pair → ℕ) (D : Distance) (row : Drawing) (f : Forest)
     → sumOver w (pairsOf row) + sumOver w (recordOnto D row f) ≡ sumOver w (pairsOf (drawOnto D row f))
 pairs-record w D row nil = omega arith
 pairs-record w D row (node v f g) =

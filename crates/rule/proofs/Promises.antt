@@ -1,4 +1,4 @@
--- The promises of the written rule, for every accepted table and every separation. Assumes nothing.
+-- The promises of the written rule, for every accepted table and whatever distance neighbours need. Assumes nothing.
 use mathlib.Core.Path.{_≡_, refl, sym, ap, _∙_, subst, subst₂}
 use mathlib.Core.Bool.{true}
 use mathlib.Core.List.{List, [], _∷_, map, List·Memᴰ, List·Memᴰ·head, List·Memᴰ·tail}
@@ -7,6 +7,7 @@ use native.Mathlib.Omega.{arith}
 use lib.IntN.{ℤ, pos, _+ℤ_, _-ℤ_}
 use lib.Signed.{_≤ℤ_}
 use lib.ListN.{length}
+use Rattle.distance.specs.Needed.{Distance}
 use Rattle.tree.specs.Table.{nodes, firstChild}
 use Rattle.tree.specs.Forest.{Forest, node, forest, forestFrom, treeOf, preorder}
 use Rattle.tree.specs.Levels.{Pair, levels, level, levelCount, sideBySide, neighbours}
@@ -26,20 +27,20 @@ use Rattle.rule.proofs.Names.{names-draw}
 use Rattle.rule.proofs.Pairs.{pairs-record, pairsIn}
 use Rattle.rule.proofs.PairCounts.{pairCount-sum, length-sum, levels-once, levels-pairs}
 use Rattle.rule.proofs.Spacing.{Spaced, row-child, row-drawOnto, row-none}
-use Rattle.rule.proofs.Shapes.{blank, blank-middle, same-drawing}
+use Rattle.rule.proofs.Shapes.{renameDrawing, needBy, rename-middle, same-drawing}
 use Rattle.rule.proofs.OnLevel.{OnLevel, top, down}
-use Rattle.rule.proofs.Within.{Stands, has-stands, has-draw, blank-alike, Match, alike-match}
+use Rattle.rule.proofs.Within.{Stands, has-stands, has-draw, renamed-alike, Match, alike-match}
 use Rattle.rule.proofs.Lookup.{nodesOf, nodes-drawn, dot-place, dot-level}
 use Rattle.tree.proofs.Joined.{levels-some, length-levels}
 
 -- ---- 1. the measured pairs are the neighbours
 
-weighed : (w : Pair → ℕ) (D : ℕ) (t : List ℕ) → sumOver w (recorded D t) ≡ sumOver w (neighbours t)
+weighed : (w : Pair → ℕ) (D : Distance) (t : List ℕ) → sumOver w (recorded D t) ≡ sumOver w (neighbours t)
 unfolding recorded neighbours
 weighed w D t = omega (arith, pairs-record w D none (treeOf t), ap (λ (f : Forest). sumOver w (pairsIn (levels f))) (names-draw D (treeOf t)))
 
 -- the measured pairs are the pairs of neighbours, each as often
-pub measured-neighbours : (D : ℕ) (t : List ℕ) → SamePairs (recorded D t) (neighbours t)
+pub measured-neighbours : (D : Distance) (t : List ℕ) → SamePairs (recorded D t) (neighbours t)
 measured-neighbours D t =
     record {
       many = length-sum (recorded D t) ∙ weighed (λ p. 1) D t ∙ sym (length-sum (neighbours t));
@@ -60,29 +61,29 @@ module _ (t : List ℕ) (accepted : tableNumber t ≡ 0) where
 -- ---- 2. each level keeps tree order
 
 -- the neighbours on a list of levels, each dot of which stands where `spot` says, keep their distance
-spaced-pairs : (D : ℕ) (spot : ℕ → ℤ) (xs : List (List Dot)) → All (Spaced D) xs → ((e : Dot) (l : ℕ) → OnLevel e l xs → spot (e .node) ≡ e .place)
-    → All (λ p. (spot (p .0) +ℤ pos D) ≤ℤ (spot (p .1))) (pairsIn (map nodesOf xs))
+spaced-pairs : (D : Distance) (spot : ℕ → ℤ) (xs : List (List Dot)) → All (Spaced D) xs → ((e : Dot) (l : ℕ) → OnLevel e l xs → spot (e .node) ≡ e .place)
+    → All (λ p. (spot (p .0) +ℤ pos (D (p .0) (p .1))) ≤ℤ (spot (p .1))) (pairsIn (map nodesOf xs))
 spaced-pairs D spot [] s h = tt
 spaced-pairs D spot (x ∷ xs) s h =
-    all-append (λ p. (spot (p .0) +ℤ pos D) ≤ℤ (spot (p .1))) (sideBySide (nodesOf x)) (pairsIn (map nodesOf xs))
+    all-append (λ p. (spot (p .0) +ℤ pos (D (p .0) (p .1))) ≤ℤ (spot (p .1))) (sideBySide (nodesOf x)) (pairsIn (map nodesOf xs))
     (one x (s .0) (λ e m. h e 0 (top m)))
     (spaced-pairs D spot xs (s .1) (λ e l o. h e (suc l) (down o)))
   where
     one : (x : List Dot) → Spaced D x → ((e : Dot) → List·Memᴰ e x → spot (e .node) ≡ e .place)
-        → All (λ p. (spot (p .0) +ℤ pos D) ≤ℤ (spot (p .1))) (sideBySide (nodesOf x))
+        → All (λ p. (spot (p .0) +ℤ pos (D (p .0) (p .1))) ≤ℤ (spot (p .1))) (sideBySide (nodesOf x))
     one [] s h = tt
     one (d ∷ []) s h = tt
     one (d ∷ e ∷ l) s h = (
-      subst₂ (λ (a b : ℤ). (a +ℤ pos D) ≤ℤ b) (sym (h d (List·Memᴰ·head refl))) (sym (h e (List·Memᴰ·tail (List·Memᴰ·head refl))))
-          (parts-le (d .place +ℤ pos D) (e .place) (s .0 .apart)),
+      subst₂ (λ (a b : ℤ). (a +ℤ pos (D (d .node) (e .node))) ≤ℤ b) (sym (h d (List·Memᴰ·head refl))) (sym (h e (List·Memᴰ·tail (List·Memᴰ·head refl))))
+          (parts-le (d .place +ℤ pos (D (d .node) (e .node))) (e .place) (s .0 .apart)),
       one (e ∷ l) (s .1) (λ f m. h f (List·Memᴰ·tail m)),
     )
 
--- of every two neighbours the right one stands at least the separation further right
-pub neighbours-apart : (D : ℕ) (t : List ℕ) → tableNumber t ≡ 0 → All (λ p. (place D t (p .0) +ℤ pos D) ≤ℤ (place D t (p .1))) (neighbours t)
+-- of every two neighbours the right one stands at least the distance that they need further right
+pub neighbours-apart : (D : Distance) (t : List ℕ) → tableNumber t ≡ 0 → All (λ p. (place D t (p .0) +ℤ pos (D (p .0) (p .1))) ≤ℤ (place D t (p .1))) (neighbours t)
 unfolding neighbours drawn
 neighbours-apart D t accepted =
-    subst (λ (ls : List (List ℕ)). All (λ p. (place D t (p .0) +ℤ pos D) ≤ℤ (place D t (p .1))) (pairsIn ls)) (nodes-drawn D t accepted)
+    subst (λ (ls : List (List ℕ)). All (λ p. (place D t (p .0) +ℤ pos (D (p .0) (p .1))) ≤ℤ (place D t (p .1))) (pairsIn ls)) (nodes-drawn D t accepted)
     (spaced-pairs D (place D t) (drawn D t)
     (row-child D 0 (width (draw D (treeOf t))) (pos 0) (draw D (treeOf t)) (row-drawOnto D none (treeOf t) (row-none D)) .spaced)
     (dot-place D t accepted))
@@ -104,21 +105,23 @@ part-at t accepted v h =
     (r .1, subst (λ (f : Forest). Part (node v f (r .1)) (treeOf t)) (sym reads) (r .2))
 
 -- where node v of an accepted table stands, with what is drawn below it
-pub stands-at : (D : ℕ) (t : List ℕ) → tableNumber t ≡ 0 → (v : ℕ) → v < nodes t → Stands 0 v (draw D (under t v)) (drawn D t)
+pub stands-at : (D : Distance) (t : List ℕ) → tableNumber t ≡ 0 → (v : ℕ) → v < nodes t → Stands 0 v (draw D (under t v)) (drawn D t)
 unfolding drawn
 stands-at D t accepted v h = has-stands 0 (pos 0) (has-draw D none (part-at t accepted v h .1))
 
 -- two nodes, in one table or in two, with one sideways shift and one difference in depth at every two corresponding nodes below them
-pub record DrawnEqually (D : ℕ) (t : List ℕ) (v : ℕ) (u : List ℕ) (w : ℕ) : Type 0 where
+pub record DrawnEqually (D : Distance) (t : List ℕ) (v : ℕ) (D′ : Distance) (u : List ℕ) (w : ℕ) : Type 0 where
   pub shift : ℤ
   pub depth : ℤ
-  pub places : All (λ p. place D u (p .1) ≡ place D t (p .0) +ℤ shift) (correspondingUnder t v u w)
+  pub places : All (λ p. place D′ u (p .1) ≡ place D t (p .0) +ℤ shift) (correspondingUnder t v u w)
   pub levels : All (λ p. pos (level u (p .1)) ≡ pos (level t (p .0)) +ℤ depth) (correspondingUnder t v u w)
 
-pub shapes-equal : (D : ℕ) (t u : List ℕ) → tableNumber t ≡ 0 → tableNumber u ≡ 0 → (v w : ℕ) → v < nodes t → w < nodes u
-    → sameOrderedShape t v u w ≡ true → DrawnEqually D t v u w
+-- The nodes of the one table are known to the distance by g, those of the other by h: what they need is equal at corresponding nodes.
+pub shapes-equal : (N : Distance) (g h : ℕ → ℕ) (t u : List ℕ) → tableNumber t ≡ 0 → tableNumber u ≡ 0 → (v w : ℕ) → v < nodes t → w < nodes u
+    → sameOrderedShape t v u w ≡ true → All (λ p. g (p .0) ≡ h (p .1)) (corresponding (under t v) (under u w))
+    → DrawnEqually (needBy g N) t v (needBy h N) u w
 unfolding sameOrderedShape correspondingUnder
-shapes-equal D t u ok ok′ v w hv hw same =
+shapes-equal N g h t u ok ok′ v w hv hw same equal =
     record {
       shift = S′ .place -ℤ S .place;
       depth = pos (S′ .level) -ℤ pos (S .level);
@@ -126,17 +129,23 @@ shapes-equal D t u ok ok′ v w hv hw same =
       levels = (root-level, all-weaken (Match 0 0 o q (dots 0 o b) (dots 0 q b′)) _ below-level (corresponding (under t v) (under u w)) matches);
     }
   where
+    D : Distance
+    D = needBy g N
+
+    D′ : Distance
+    D′ = needBy h N
+
     b : Drawing
     b = draw D (under t v)
 
     b′ : Drawing
-    b′ = draw D (under u w)
+    b′ = draw D′ (under u w)
 
     S : Stands 0 v b (drawn D t)
     S = stands-at D t ok v hv
 
-    S′ : Stands 0 w b′ (drawn D u)
-    S′ = stands-at D u ok′ w hw
+    S′ : Stands 0 w b′ (drawn D′ u)
+    S′ = stands-at D′ u ok′ w hw
 
     o : ℤ
     o = S .place -ℤ pos (middle b)
@@ -144,27 +153,27 @@ shapes-equal D t u ok ok′ v w hv hw same =
     q : ℤ
     q = S′ .place -ℤ pos (middle b′)
 
-    alike : blank b ≡ blank b′
-    alike = same-drawing D (under t v) (under u w) same
+    alike : renameDrawing g b ≡ renameDrawing h b′
+    alike = same-drawing N g h (under t v) (under u w) same equal
 
     middles : middle b ≡ middle b′
-    middles = sym (blank-middle b) ∙ ap middle alike ∙ blank-middle b′
+    middles = sym (rename-middle g b) ∙ ap middle alike ∙ rename-middle h b′
 
     matches : All (Match 0 0 o q (dots 0 o b) (dots 0 q b′)) (corresponding (under t v) (under u w))
     matches =
-        subst₂ (λ (f g : Forest). All (Match 0 0 o q (dots 0 o b) (dots 0 q b′)) (corresponding f g)) (names-draw D (under t v)) (names-draw D (under u w))
-        (alike-match 0 0 o q b b′ (blank-alike b b′ alike))
+        subst₂ (λ (f g : Forest). All (Match 0 0 o q (dots 0 o b) (dots 0 q b′)) (corresponding f g)) (names-draw D (under t v)) (names-draw D′ (under u w))
+        (alike-match 0 0 o q b b′ (renamed-alike g h b b′ alike))
 
     across : (x y : ℤ) → y ≡ x +ℤ (y -ℤ x)
     across x y = parts-eq y (x +ℤ (y -ℤ x)) (omega (arith, parts-sub y x, parts-add x (y -ℤ x)))
 
-    root-place : place D u w ≡ place D t v +ℤ (S′ .place -ℤ S .place)
+    root-place : place D′ u w ≡ place D t v +ℤ (S′ .place -ℤ S .place)
     root-place =
-        rw (dot-place D u ok′ (dot 0 w (S′ .place)) (S′ .level) (S′ .root), dot-place D t ok (dot 0 v (S .place)) (S .level) (S .root)) (across (S .place) (S′ .place))
+        rw (dot-place D′ u ok′ (dot 0 w (S′ .place)) (S′ .level) (S′ .root), dot-place D t ok (dot 0 v (S .place)) (S .level) (S .root)) (across (S .place) (S′ .place))
 
     root-level : pos (level u w) ≡ pos (level t v) +ℤ (pos (S′ .level) -ℤ pos (S .level))
     root-level =
-        rw (dot-level D u ok′ (dot 0 w (S′ .place)) (S′ .level) (S′ .root), dot-level D t ok (dot 0 v (S .place)) (S .level) (S .root)) (across (pos (S .level)) (pos (S′ .level)))
+        rw (dot-level D′ u ok′ (dot 0 w (S′ .place)) (S′ .level) (S′ .root), dot-level D t ok (dot 0 v (S .place)) (S .level) (S .root)) (across (pos (S .level)) (pos (S′ .level)))
 
     moved : (d : ℤ) → q +ℤ d ≡ (o +ℤ d) +ℤ (S′ .place -ℤ S .place)
     moved d =
@@ -180,10 +189,10 @@ shapes-equal D t u ok ok′ v w hv hw same =
           parts-add (o +ℤ d) (S′ .place -ℤ S .place),
         ))
 
-    below-place : (p : Pair) → Match 0 0 o q (dots 0 o b) (dots 0 q b′) p → place D u (p .1) ≡ place D t (p .0) +ℤ (S′ .place -ℤ S .place)
+    below-place : (p : Pair) → Match 0 0 o q (dots 0 o b) (dots 0 q b′) p → place D′ u (p .1) ≡ place D t (p .0) +ℤ (S′ .place -ℤ S .place)
     below-place p M =
         rw (
-          dot-place D u ok′ (dot 0 (p .1) (q +ℤ M .distance)) (suc (S′ .level + M .level)) (S′ .under _ (M .level) (M .right)),
+          dot-place D′ u ok′ (dot 0 (p .1) (q +ℤ M .distance)) (suc (S′ .level + M .level)) (S′ .under _ (M .level) (M .right)),
           dot-place D t ok (dot 0 (p .0) (o +ℤ M .distance)) (suc (S .level + M .level)) (S .under _ (M .level) (M .left)),
         )
         (moved (M .distance))
@@ -196,7 +205,7 @@ shapes-equal D t u ok ok′ v w hv hw same =
     below-level : (p : Pair) → Match 0 0 o q (dots 0 o b) (dots 0 q b′) p → pos (level u (p .1)) ≡ pos (level t (p .0)) +ℤ (pos (S′ .level) -ℤ pos (S .level))
     below-level p M =
         rw (
-          dot-level D u ok′ (dot 0 (p .1) (q +ℤ M .distance)) (suc (S′ .level + M .level)) (S′ .under _ (M .level) (M .right)),
+          dot-level D′ u ok′ (dot 0 (p .1) (q +ℤ M .distance)) (suc (S′ .level + M .level)) (S′ .under _ (M .level) (M .right)),
           dot-level D t ok (dot 0 (p .0) (o +ℤ M .distance)) (suc (S .level + M .level)) (S .under _ (M .level) (M .left)),
         )
         (deeper (M .level))

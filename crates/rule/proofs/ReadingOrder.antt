@@ -1,5 +1,5 @@
--- Reading order told by level and place: of two pairs of neighbours the earlier one stands on a higher level, or on the same level and at
--- least the separation further left. Assumes nothing.
+-- Reading order told by level and place: of two pairs of neighbours the earlier one stands on a higher level, or on the same level and
+-- further left by at least what any two nodes need. Assumes nothing.
 use mathlib.Core.Logic.{_⊎_, inl, inr}
 use mathlib.Core.Path.{_≡_, sym, _∙_}
 use mathlib.Core.List.{List, [], _∷_, _++_}
@@ -9,6 +9,7 @@ use native.Mathlib.Omega.{arith}
 use lib.IntN.{ℤ, pos, _+ℤ_}
 use lib.ListN.{length, getD}
 use lib.Signed.{_≤ℤ_}
+use Rattle.distance.specs.Needed.{Distance}
 use Rattle.tree.specs.Numbers.{flatMap}
 use Rattle.tree.specs.Forest.{treeOf}
 use Rattle.tree.specs.Levels.{Pair, level, levels, sideBySide, neighbours}
@@ -101,10 +102,18 @@ module _ (lev : ℕ → ℕ) (spot : ℕ → ℤ) (D : ℕ) where
   not-itself some p (inl above) = omega arith
   not-itself some p (inr beside) = omega (arith, at-most (spot (p .0) +ℤ pos D) (spot (p .0)) (beside .1), parts-add (spot (p .0)) (pos D))
 
--- the pairs of an accepted table's neighbours come in reading order
-pub neighbours-read : (D : ℕ) (t : List ℕ) → tableNumber t ≡ 0 → (d : Pair) (i j : ℕ) → i < j → j < length (neighbours t)
-    → ReadBefore (level t) (place D t) D (getD (neighbours t) i d) (getD (neighbours t) j d)
-unfolding neighbours
-neighbours-read D t accepted d =
-    pairwise-at (ReadBefore (level t) (place D t) D) (neighbours t) d
-    (levels-in-order (level t) (place D t) D 0 (levels (treeOf t)) (accepted-leveled t accepted) (neighbours-apart D t accepted))
+-- Where no two nodes need less than D, neighbours of an accepted table stand at least D apart,
+module _ (N : Distance) (D : ℕ) (least : (a b : ℕ) → D ≤ N a b) (t : List ℕ) (accepted : tableNumber t ≡ 0) where
+  pub neighbours-at-least : All (Apart (place N t) D) (neighbours t)
+  neighbours-at-least = all-weaken _ _ (λ p h. nearer (place N t (p .0)) (place N t (p .1)) (least (p .0) (p .1)) h) (neighbours t) (neighbours-apart N t accepted)
+    where
+      nearer : {m n : ℕ} (x y : ℤ) → m ≤ n → (x +ℤ pos n) ≤ℤ y → (x +ℤ pos m) ≤ℤ y
+      nearer {m} {n} x y k h = parts-le (x +ℤ pos m) y (omega (arith, at-most (x +ℤ pos n) y h, parts-add x (pos n), parts-add x (pos m)))
+
+  -- and their pairs come in reading order
+  pub neighbours-read : (d : Pair) (i j : ℕ) → i < j → j < length (neighbours t)
+      → ReadBefore (level t) (place N t) D (getD (neighbours t) i d) (getD (neighbours t) j d)
+  unfolding neighbours
+  neighbours-read d =
+      pairwise-at (ReadBefore (level t) (place N t) D) (neighbours t) d
+      (levels-in-order (level t) (place N t) D 0 (levels (treeOf t)) (accepted-leveled t accepted) neighbours-at-least)

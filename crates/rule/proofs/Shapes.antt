@@ -1,133 +1,178 @@
--- Forests of one shape are drawn alike: nothing in a drawing but its nodes' numbers depends on the numbers. Assumes nothing.
+-- A drawing goes along with another number for each node: of the numbers it knows only what two nodes need. So forests of one shape, in which
+-- corresponding nodes need the same, are drawn alike. Assumes nothing.
 use mathlib.Core.Path.{_≡_, refl, sym, ap, ap₂, _∙_}
 use mathlib.Core.Bool.{true, true≢false}
 use mathlib.Core.List.{List, [], _∷_, map}
 use Prim.Native.Nat.{ℕ, suc, _+_, _-_, _/_}
 use lib.IntN.{ℤ, pos, _+ℤ_, _-ℤ_}
+use Rattle.distance.specs.Needed.{Distance}
 use Rattle.refusal.proofs.Truth.{and-left, and-right}
-use Rattle.tree.specs.Forest.{Forest, nil, node}
+use Rattle.tree.specs.Forest.{Forest, nil, node, preorder}
 use Rattle.tree.specs.Levels.{beside}
-use Rattle.tree.specs.Shape.{sameShape}
-use Rattle.rule.specs.Drawing.{Drawing, none, at, width, append, firstPlace, lastPlace, middle, Dot, dot, dots, rowDots, firstOf, lastOf, leftContour, rightContour}
+use Rattle.tree.specs.Shape.{sameShape, corresponding}
+use Rattle.tree.proofs.Counting.{All, all-left, all-right}
+use Rattle.tree.proofs.Joined.{Some, some, beside-some, map-beside}
+use Rattle.tree.proofs.Rename.{rename}
+use Rattle.rule.specs.Drawing.{Drawing, none, at, width, append, firstPlace, lastPlace, middle, Dot, dot, dots, rowDots, leftContour, rightContour}
 use Rattle.rule.specs.Join.{Meeting, shortfall, meet, shares, total, spread, start, alone, join, meetings, settled, rowContour, newContour}
 use Rattle.rule.specs.Rule.{drawOnto, draw}
-use Rattle.tree.proofs.Joined.{map-beside}
+use Rattle.rule.proofs.Names.{names, names-draw}
+use Rattle.rule.proofs.LevelEnds.{last-map, first-map}
 
--- ---- without the numbers
+abbrev pub renameDrawing : (ℕ → ℕ) → Drawing → Drawing
+renameDrawing g none = none
+renameDrawing g (at v x below after) = at (g v) x (renameDrawing g below) (renameDrawing g after)
 
-abbrev pub blank : Drawing → Drawing
-blank none = none
-blank (at v x below after) = at 0 x (blank below) (blank after)
+abbrev pub renameDot : (ℕ → ℕ) → Dot → Dot
+renameDot g e = dot (e .child) (g (e .node)) (e .place)
 
-abbrev pub blankForest : Forest → Forest
-blankForest nil = nil
-blankForest (node v f g) = node 0 (blankForest f) (blankForest g)
+-- what the nodes need whose new numbers are the arguments
+abbrev pub needBy : (ℕ → ℕ) → Distance → Distance
+needBy g D a b = D (g a) (g b)
 
-abbrev blankDot : Dot → Dot
-blankDot e = dot (e .child) 0 (e .place)
+-- ---- places, levels and contours
 
-blank-first : (d : Drawing) → firstPlace (blank d) ≡ firstPlace d
-blank-first none = refl
-blank-first (at v x below after) = refl
+rename-first : (g : ℕ → ℕ) (d : Drawing) → firstPlace (renameDrawing g d) ≡ firstPlace d
+rename-first g none = refl
+rename-first g (at v x below after) = refl
 
-blank-last : (d : Drawing) → lastPlace (blank d) ≡ lastPlace d
-blank-last none = refl
-blank-last (at v x below none) = refl
-blank-last (at v x below (at w y under after)) = blank-last (at w y under after)
+rename-last : (g : ℕ → ℕ) (d : Drawing) → lastPlace (renameDrawing g d) ≡ lastPlace d
+rename-last g none = refl
+rename-last g (at v x below none) = refl
+rename-last g (at v x below (at w y under after)) = rename-last g (at w y under after)
 
-pub blank-middle : (d : Drawing) → middle (blank d) ≡ middle d
-blank-middle d = ap₂ (λ (a b : ℕ). a + (b - a) / 2) (blank-first d) (blank-last d)
+pub rename-middle : (g : ℕ → ℕ) (d : Drawing) → middle (renameDrawing g d) ≡ middle d
+rename-middle g d = ap₂ (λ (a b : ℕ). a + (b - a) / 2) (rename-first g d) (rename-last g d)
 
-blank-width : (d : Drawing) → width (blank d) ≡ width d
-blank-width none = refl
-blank-width (at v x below after) = ap suc (blank-width after)
+rename-width : (g : ℕ → ℕ) (d : Drawing) → width (renameDrawing g d) ≡ width d
+rename-width g none = refl
+rename-width g (at v x below after) = ap suc (rename-width g after)
 
-blank-start : (D : ℕ) (d : Drawing) (v : ℕ) → start D (blank d) 0 ≡ start D d v
-blank-start D none v = refl
-blank-start D (at u x below none) v = refl
-blank-start D (at u x below (at z y under after)) v = blank-start D (at z y under after) v
+pub rename-dots : (g : ℕ → ℕ) (i : ℕ) (o : ℤ) (d : Drawing) → dots i o (renameDrawing g d) ≡ map (map (renameDot g)) (dots i o d)
+rename-dots g i o none = refl
+rename-dots g i o (at v x below after) =
+    ap₂ (λ (l k : List (List Dot)). beside ((dot i (g v) (o +ℤ pos x) ∷ []) ∷ l) k)
+    (ap (λ (m : ℕ). dots i (o +ℤ pos x -ℤ pos m) (renameDrawing g below)) (rename-middle g below)
+    ∙ rename-dots g i (o +ℤ pos x -ℤ pos (middle below)) below)
+    (rename-dots g i o after)
+    ∙ sym (map-beside (renameDot g) ((dot i v (o +ℤ pos x) ∷ []) ∷ dots i (o +ℤ pos x -ℤ pos (middle below)) below) (dots i o after))
 
--- ---- levels, contours and meetings
+rename-rowDots : (g : ℕ → ℕ) (i : ℕ) (d : Drawing) → rowDots i (renameDrawing g d) ≡ map (map (renameDot g)) (rowDots i d)
+rename-rowDots g i none = refl
+rename-rowDots g i (at v x below after) =
+    ap₂ (λ (l k : List (List Dot)). beside l k) (rename-dots g i (pos 0) (at v x below none)) (rename-rowDots g (i + 1) after)
+    ∙ sym (map-beside (renameDot g) (dots i (pos 0) (at v x below none)) (rowDots (i + 1) after))
 
-blank-dots : (i : ℕ) (o : ℤ) (d : Drawing) → dots i o (blank d) ≡ map (map blankDot) (dots i o d)
-blank-dots i o none = refl
-blank-dots i o (at v x below after) =
-    ap₂ (λ (l k : List (List Dot)). beside ((dot i 0 (o +ℤ pos x) ∷ []) ∷ l) k)
-    (ap (λ (m : ℕ). dots i (o +ℤ pos x -ℤ pos m) (blank below)) (blank-middle below) ∙ blank-dots i (o +ℤ pos x -ℤ pos (middle below)) below)
-    (blank-dots i o after)
-    ∙ sym (map-beside blankDot ((dot i v (o +ℤ pos x) ∷ []) ∷ dots i (o +ℤ pos x -ℤ pos (middle below)) below) (dots i o after))
+-- no level is empty
+dots-some : (i : ℕ) (o : ℤ) (d : Drawing) → All Some (dots i o d)
+dots-some i o none = tt
+dots-some i o (at v x below after) =
+    beside-some ((dot i v (o +ℤ pos x) ∷ []) ∷ dots i (o +ℤ pos x -ℤ pos (middle below)) below) (dots i o after)
+    (some, dots-some i (o +ℤ pos x -ℤ pos (middle below)) below) (dots-some i o after)
 
-blank-rowDots : (i : ℕ) (d : Drawing) → rowDots i (blank d) ≡ map (map blankDot) (rowDots i d)
-blank-rowDots i none = refl
-blank-rowDots i (at v x below after) =
-    ap₂ (λ (l k : List (List Dot)). beside l k) (blank-dots i (pos 0) (at v x below none)) (blank-rowDots (i + 1) after)
-    ∙ sym (map-beside blankDot (dots i (pos 0) (at v x below none)) (rowDots (i + 1) after))
+rowDots-some : (i : ℕ) (d : Drawing) → All Some (rowDots i d)
+rowDots-some i none = tt
+rowDots-some i (at v x below after) =
+    beside-some (dots i (pos 0) (at v x below none)) (rowDots (i + 1) after) (dots-some i (pos 0) (at v x below none)) (rowDots-some (i + 1) after)
 
-contour-last : (xs : List (List Dot)) → rightContour (map (map blankDot) xs) ≡ map blankDot (rightContour xs)
-contour-last [] = refl
-contour-last (x ∷ xs) = ap₂ (λ (e : Dot) (l : List Dot). e ∷ l) (last x) (contour-last xs)
-  where
-    last : (x : List Dot) → lastOf (map blankDot x) ≡ blankDot (lastOf x)
-    last [] = refl
-    last (d ∷ []) = refl
-    last (d ∷ e ∷ l) = last (e ∷ l)
+contour-last : (g : ℕ → ℕ) (xs : List (List Dot)) → All Some xs → rightContour (map (map (renameDot g)) xs) ≡ map (renameDot g) (rightContour xs)
+contour-last g [] s = refl
+contour-last g (x ∷ xs) s = ap₂ (λ (e : Dot) (l : List Dot). e ∷ l) (last-map (renameDot g) x (s .0)) (contour-last g xs (s .1))
 
-contour-first : (xs : List (List Dot)) → leftContour (map (map blankDot) xs) ≡ map blankDot (leftContour xs)
-contour-first [] = refl
-contour-first (x ∷ xs) = ap₂ (λ (e : Dot) (l : List Dot). e ∷ l) (first x) (contour-first xs)
-  where
-    first : (x : List Dot) → firstOf (map blankDot x) ≡ blankDot (firstOf x)
-    first [] = refl
-    first (d ∷ l) = refl
-
-meet-blank : (D m : ℕ) (us ws : List Dot) → meet D m (map blankDot us) (map blankDot ws) ≡ meet D m us ws
-meet-blank D m [] ws = refl
-meet-blank D m (u ∷ us) [] = refl
-meet-blank D m (u ∷ us) (w ∷ ws) =
-    ap (λ (l : List Meeting). record { child = u .child; amount = shortfall D (u .place) (w .place +ℤ pos m) } ∷ l)
-    (meet-blank D (m + shortfall D (u .place) (w .place +ℤ pos m)) us ws)
-
-blank-meetings : (D : ℕ) (row : Drawing) (v : ℕ) (below : Drawing) → meetings D (blank row) 0 (blank below) ≡ meetings D row v below
-blank-meetings D row v below =
-    ap₂ (meet D 0)
-    (ap rightContour (blank-rowDots 0 row) ∙ contour-last (rowDots 0 row))
-    (ap₂ (λ (j x : ℕ). leftContour (dots j (pos 0) (alone 0 x (blank below)))) (blank-width row) (blank-start D row v)
-    ∙ ap leftContour (blank-dots (width row) (pos 0) (alone v (start D row v) below))
-    ∙ contour-first (dots (width row) (pos 0) (alone v (start D row v) below)))
-    ∙ meet-blank D 0 (rowContour row) (newContour D row v below)
+contour-first : (g : ℕ → ℕ) (xs : List (List Dot)) → All Some xs → leftContour (map (map (renameDot g)) xs) ≡ map (renameDot g) (leftContour xs)
+contour-first g [] s = refl
+contour-first g (x ∷ xs) s = ap₂ (λ (e : Dot) (l : List Dot). e ∷ l) (first-map (renameDot g) x (s .0)) (contour-first g xs (s .1))
 
 -- ---- joins and whole rows
 
-blank-append : (d e : Drawing) → blank (append d e) ≡ append (blank d) (blank e)
-blank-append none e = refl
-blank-append (at v x below after) e = ap (at 0 x (blank below)) (blank-append after e)
+module _ (D : Distance) (g : ℕ → ℕ) where
+  rename-start : (d : Drawing) (v : ℕ) → start D (renameDrawing g d) (g v) ≡ start (needBy g D) d v
+  rename-start none v = refl
+  rename-start (at u x below none) v = refl
+  rename-start (at u x below (at z y under after)) v = rename-start (at z y under after) v
 
-blank-spread : (j : ℕ) (ms : List Meeting) (p : ℕ) (d : Drawing) → blank (spread j ms p d) ≡ spread j ms p (blank d)
-blank-spread j ms p none = refl
-blank-spread j ms p (at v x below after) = ap (at 0 (x + shares j ms p) (blank below)) (blank-spread j ms (p + 1) after)
+  meet-renamed : (m : ℕ) (us ws : List Dot) → meet D m (map (renameDot g) us) (map (renameDot g) ws) ≡ meet (needBy g D) m us ws
+  meet-renamed m [] ws = refl
+  meet-renamed m (u ∷ us) [] = refl
+  meet-renamed m (u ∷ us) (w ∷ ws) =
+      let s = shortfall (D (g (u .node)) (g (w .node))) (u .place) (w .place +ℤ pos m) in
+      ap (λ (l : List Meeting). record { child = u .child; amount = s } ∷ l) (meet-renamed (m + s) us ws)
 
-blank-join : (D : ℕ) (row : Drawing) (v : ℕ) (below : Drawing) → join D (blank row) 0 (blank below) ≡ blank (join D row v below)
-blank-join D row v below =
-    ap₂ append
-    (ap₂ (λ (j : ℕ) (ms : List Meeting). spread j ms 0 (blank row)) (blank-width row) (blank-meetings D row v below)
-    ∙ sym (blank-spread (width row) (meetings D row v below) 0 row))
-    (ap₂ (λ (x : ℕ) (ms : List Meeting). alone 0 (x + total ms) (blank below)) (blank-start D row v) (blank-meetings D row v below))
-    ∙ sym (blank-append (spread (width row) (meetings D row v below) 0 row) (alone v (settled D row v below) below))
+  rename-meetings : (row : Drawing) (v : ℕ) (below : Drawing)
+      → meetings D (renameDrawing g row) (g v) (renameDrawing g below) ≡ meetings (needBy g D) row v below
+  rename-meetings row v below =
+      let new = alone v (start (needBy g D) row v) below in
+      ap₂ (meet D 0)
+      (ap rightContour (rename-rowDots g 0 row) ∙ contour-last g (rowDots 0 row) (rowDots-some 0 row))
+      (ap₂ (λ (j x : ℕ). leftContour (dots j (pos 0) (alone (g v) x (renameDrawing g below)))) (rename-width g row) (rename-start row v)
+      ∙ ap leftContour (rename-dots g (width row) (pos 0) new)
+      ∙ contour-first g (dots (width row) (pos 0) new) (dots-some (width row) (pos 0) new))
+      ∙ meet-renamed 0 (rowContour row) (newContour (needBy g D) row v below)
 
-blank-drawOnto : (D : ℕ) (row : Drawing) (f : Forest) → drawOnto D (blank row) (blankForest f) ≡ blank (drawOnto D row f)
-blank-drawOnto D row nil = refl
-blank-drawOnto D row (node v f g) =
-    ap (λ (d : Drawing). drawOnto D (join D (blank row) 0 d) (blankForest g)) (blank-drawOnto D none f)
-    ∙ ap (λ (d : Drawing). drawOnto D d (blankForest g)) (blank-join D row v (drawOnto D none f))
-    ∙ blank-drawOnto D (join D row v (drawOnto D none f)) g
+  rename-append : (d e : Drawing) → renameDrawing g (append d e) ≡ append (renameDrawing g d) (renameDrawing g e)
+  rename-append none e = refl
+  rename-append (at v x below after) e = ap (at (g v) x (renameDrawing g below)) (rename-append after e)
 
-same-blank : (f g : Forest) → sameShape f g ≡ true → blankForest f ≡ blankForest g
-same-blank nil nil e = refl
-same-blank nil (node w g h) e = absurd (true≢false (sym e))
-same-blank (node v f k) nil e = absurd (true≢false (sym e))
-same-blank (node v f k) (node w g h) e =
-    ap₂ (node 0) (same-blank f g (and-left (sameShape f g) (sameShape k h) e)) (same-blank k h (and-right (sameShape f g) (sameShape k h) e))
+  rename-spread : (j : ℕ) (ms : List Meeting) (p : ℕ) (d : Drawing) → renameDrawing g (spread j ms p d) ≡ spread j ms p (renameDrawing g d)
+  rename-spread j ms p none = refl
+  rename-spread j ms p (at v x below after) = ap (at (g v) (x + shares j ms p) (renameDrawing g below)) (rename-spread j ms (p + 1) after)
 
--- forests of one shape, drawn with one separation, differ in their numbers alone
-pub same-drawing : (D : ℕ) (f g : Forest) → sameShape f g ≡ true → blank (draw D f) ≡ blank (draw D g)
-same-drawing D f g e = sym (blank-drawOnto D none f) ∙ ap (drawOnto D none) (same-blank f g e) ∙ blank-drawOnto D none g
+  rename-join : (row : Drawing) (v : ℕ) (below : Drawing)
+      → join D (renameDrawing g row) (g v) (renameDrawing g below) ≡ renameDrawing g (join (needBy g D) row v below)
+  rename-join row v below =
+      let ms = meetings (needBy g D) row v below in
+      ap₂ append
+      (ap₂ (λ (j : ℕ) (ms : List Meeting). spread j ms 0 (renameDrawing g row)) (rename-width g row) (rename-meetings row v below)
+      ∙ sym (rename-spread (width row) ms 0 row))
+      (ap₂ (λ (x : ℕ) (ms : List Meeting). alone (g v) (x + total ms) (renameDrawing g below)) (rename-start row v) (rename-meetings row v below))
+      ∙ sym (rename-append (spread (width row) ms 0 row) (alone v (settled (needBy g D) row v below) below))
+
+  rename-drawOnto : (row : Drawing) (f : Forest) → drawOnto D (renameDrawing g row) (rename g f) ≡ renameDrawing g (drawOnto (needBy g D) row f)
+  rename-drawOnto row nil = refl
+  rename-drawOnto row (node v f h) =
+      ap (λ (d : Drawing). drawOnto D (join D (renameDrawing g row) (g v) d) (rename g h)) (rename-drawOnto none f)
+      ∙ ap (λ (d : Drawing). drawOnto D d (rename g h)) (rename-join row v (drawOnto (needBy g D) none f))
+      ∙ rename-drawOnto (join (needBy g D) row v (drawOnto (needBy g D) none f)) h
+
+  -- the drawing of a renamed forest is the renamed drawing
+  pub rename-draw : (f : Forest) → draw D (rename g f) ≡ renameDrawing g (draw (needBy g D) f)
+  rename-draw f = rename-drawOnto none f
+
+-- ---- forests of one shape
+
+-- forests of one shape, with one number at every two corresponding nodes once these are renamed
+same-renamed : (g h : ℕ → ℕ) (a b : Forest) → sameShape a b ≡ true → All (λ p. g (p .0) ≡ h (p .1)) (corresponding a b) → rename g a ≡ rename h b
+same-renamed g h nil nil e s = refl
+same-renamed g h nil (node w c d) e s = absurd (true≢false (sym e))
+same-renamed g h (node v a b) nil e s = absurd (true≢false (sym e))
+same-renamed g h (node v a b) (node w c d) e s =
+    let first = same-renamed g h a c (and-left (sameShape a c) (sameShape b d) e) (all-left _ (corresponding a c) (corresponding b d) (s .1)) in
+    let others = same-renamed g h b d (and-right (sameShape a c) (sameShape b d) e) (all-right _ (corresponding a c) (corresponding b d) (s .1)) in
+    λ i. node (s .0 i) (first i) (others i)
+
+-- are drawn alike
+pub same-drawing : (D : Distance) (g h : ℕ → ℕ) (a b : Forest) → sameShape a b ≡ true → All (λ p. g (p .0) ≡ h (p .1)) (corresponding a b)
+    → renameDrawing g (draw (needBy g D) a) ≡ renameDrawing h (draw (needBy h D) b)
+same-drawing D g h a b e s = sym (rename-draw D g a) ∙ ap (draw D) (same-renamed g h a b e s) ∙ rename-draw D h b
+
+-- ---- numbers that stay
+
+kept-forest : (g : ℕ → ℕ) (f : Forest) → All (λ v. g v ≡ v) (preorder f) → rename g f ≡ f
+kept-forest g nil s = refl
+kept-forest g (node v a b) s =
+    let first = kept-forest g a (all-left _ (preorder a) (preorder b) (s .1)) in
+    let others = kept-forest g b (all-right _ (preorder a) (preorder b) (s .1)) in
+    λ i. node (s .0 i) (first i) (others i)
+
+kept-drawing : (g : ℕ → ℕ) (d : Drawing) → All (λ v. g v ≡ v) (preorder (names d)) → renameDrawing g d ≡ d
+kept-drawing g none s = refl
+kept-drawing g (at v x b c) s =
+    let first = kept-drawing g b (all-left _ (preorder (names b)) (preorder (names c)) (s .1)) in
+    let others = kept-drawing g c (all-right _ (preorder (names b)) (preorder (names c)) (s .1)) in
+    λ i. at (s .0 i) x (first i) (others i)
+
+-- a drawing looks only at what its own nodes need
+pub draw-kept : (D : Distance) (g : ℕ → ℕ) (f : Forest) → All (λ v. g v ≡ v) (preorder f) → draw D f ≡ draw (needBy g D) f
+draw-kept D g f s =
+    ap (draw D) (sym (kept-forest g f s)) ∙ rename-draw D g f
+    ∙ kept-drawing g (draw (needBy g D) f) (rw (names-draw (needBy g D) f) s)

@@ -4,9 +4,11 @@ use mathlib.Core.Logic.{_⊎_, inl, inr, ⊎-elim}
 use mathlib.Core.Path.{_≡_, refl, sym, ap₂, subst, subst₂, _∙_}
 use mathlib.Core.List.{List, [], _∷_}
 use Prim.Native.Nat.{ℕ, suc, _≤_, _<_}
+use native.Mathlib.Nat.{le-refl}
 use native.Mathlib.Omega.{arith}
 use lib.IntN.{ℤ, pos, _+ℤ_}
 use lib.Signed.{_≤ℤ_, _<ℤ_, ≤ℤ-refl, <ℤ-irrefl, clashℤ}
+use Rattle.distance.specs.Needed.{Distance}
 use Rattle.tree.specs.Numbers.{count, flatMap}
 use Rattle.tree.specs.Table.{nodes}
 use Rattle.tree.specs.Forest.{treeOf}
@@ -21,8 +23,7 @@ use Rattle.rule.specs.Record.{isPair, pairCount}
 use Rattle.rule.specs.Result.{place}
 use Rattle.rule.proofs.Signed.{at-most, parts-le, parts-add, not-le}
 use Rattle.rule.proofs.PairCounts.{is-pair, pairCount-append}
-use Rattle.rule.proofs.Promises.{neighbours-apart}
-use Rattle.rule.proofs.ReadingOrder.{Pairwise, LeftBy, Apart, rising}
+use Rattle.rule.proofs.ReadingOrder.{Pairwise, LeftBy, Apart, rising, neighbours-at-least}
 
 -- z does not stand between x and y
 abbrev pub NotBetween : (ℕ → ℤ) → ℕ → ℕ → ℕ → Type 0
@@ -200,7 +201,7 @@ module _ (lev : ℕ → ℕ) (spot : ℕ → ℤ) (D : ℕ) (some : 1 ≤ D) whe
 
 -- ---- an accepted table
 
-module _ (D : ℕ) (t : List ℕ) (some : 1 ≤ D) (accepted : tableNumber t ≡ 0) where
+module _ (N : Distance) (t : List ℕ) (some : (a b : ℕ) → 1 ≤ N a b) (accepted : tableNumber t ≡ 0) where
   member : (v : ℕ) → v < nodes t → 1 ≤ count v (together (levels (treeOf t)))
   member v h = omega (arith, count-levels v (treeOf t), accepted-numbers t accepted .each v h)
 
@@ -208,16 +209,16 @@ module _ (D : ℕ) (t : List ℕ) (some : 1 ≤ D) (accepted : tableNumber t ≡
   inside v c = accepted-inside t accepted v (omega (arith, count-levels v (treeOf t)))
 
   abbrev pub Drawn : ℕ → ℕ → Type 0
-  Drawn x y = SideBySide (λ v. v < nodes t) (level t) (place D t) x y
+  Drawn x y = SideBySide (λ v. v < nodes t) (level t) (place N t) x y
 
   pub neighbours-beside : All (λ p. Drawn (p .0) (p .1)) (neighbours t)
   unfolding neighbours
   neighbours-beside =
-      all-weaken _ _ (λ p B. among (level t) (place D t) D some _ _ (p .0) (p .1) (λ v h e. member v h) (inside (p .0) (B .left-in)) (inside (p .1) (B .right-in)) B) (neighbours t)
-      (levels-beside (level t) (place D t) D some 0 (levels (treeOf t)) (accepted-leveled t accepted) (neighbours-apart D t accepted))
+      all-weaken _ _ (λ p B. among (level t) (place N t) 1 (le-refl 1) _ _ (p .0) (p .1) (λ v h e. member v h) (inside (p .0) (B .left-in)) (inside (p .1) (B .right-in)) B) (neighbours t)
+      (levels-beside (level t) (place N t) 1 (le-refl 1) 0 (levels (treeOf t)) (accepted-leveled t accepted) (neighbours-at-least N 1 some t accepted))
 
   pub beside-neighbours : (x y : ℕ) → Drawn x y → 1 ≤ pairCount x y (neighbours t)
   unfolding neighbours
   beside-neighbours x y B =
-      levels-named (level t) (place D t) D some 0 (levels (treeOf t)) (accepted-leveled t accepted) (neighbours-apart D t accepted) x y
-      (among (level t) (place D t) D some _ _ x y (λ v c e. inside v c) (member x (B .left-in)) (member y (B .right-in)) B)
+      levels-named (level t) (place N t) 1 (le-refl 1) 0 (levels (treeOf t)) (accepted-leveled t accepted) (neighbours-at-least N 1 some t accepted) x y
+      (among (level t) (place N t) 1 (le-refl 1) _ _ x y (λ v c e. inside v c) (member x (B .left-in)) (member y (B .right-in)) B)

@@ -1,10 +1,11 @@
--- Each level keeps tree order: of every two neighbours the right one stands at least the separation further right. Assumes nothing.
+-- Each level keeps tree order: of every two neighbours the right one stands at least the distance that they need further right. Assumes nothing.
 use mathlib.Core.Path.{_≡_, refl, sym, ap, _∙_, subst₂}
 use mathlib.Core.List.{List, [], _∷_, _++_, map}
 use Prim.Native.Nat.{ℕ, suc, _+_, _≤_, _<_}
 use native.Mathlib.Nat.{le-trans, le-refl}
 use native.Mathlib.Omega.{arith}
 use lib.IntN.{ℤ, pos, _+ℤ_, _-ℤ_}
+use Rattle.distance.specs.Needed.{Distance}
 use Rattle.tree.specs.Forest.{Forest, nil, node}
 use Rattle.tree.specs.Levels.{beside}
 use Rattle.tree.proofs.Counting.{All, all-append, all-weaken, all-map}
@@ -20,45 +21,45 @@ use Rattle.rule.proofs.Walk.{Falling, Seams, Walking, walk-seams}
 
 -- ---- levels whose dots keep their distance
 
--- e stands at least D right of d, and belongs to the same child or a later one
-pub record Gap (D : ℕ) (d e : Dot) : Type 0 where
-  pub apart : AtMost (d .place +ℤ pos D) (e .place)
+-- e stands right of d by what the two need or more, and belongs to the same child or a later one
+pub record Gap (D : Distance) (d e : Dot) : Type 0 where
+  pub apart : AtMost (d .place +ℤ pos (D (d .node) (e .node))) (e .place)
   pub order : d .child ≤ e .child
 
-abbrev pub Spaced : ℕ → List Dot → Type 0
+abbrev pub Spaced : Distance → List Dot → Type 0
 Spaced D [] = Unit {0}
 Spaced D (d ∷ []) = Unit {0}
 Spaced D (d ∷ e ∷ l) = Gap D d e × Spaced D (e ∷ l)
 
-pub spaced-append : (D : ℕ) (l m : List Dot) → Spaced D l → Spaced D m → Some l → Some m → Gap D (lastOf l) (firstOf m) → Spaced D (l ++ m)
+pub spaced-append : (D : Distance) (l m : List Dot) → Spaced D l → Spaced D m → Some l → Some m → Gap D (lastOf l) (firstOf m) → Spaced D (l ++ m)
 spaced-append D (d ∷ []) (f ∷ m) s t sl sm g = (g, t)
 spaced-append D (d ∷ e ∷ l) m s t sl sm g = (s .0, spaced-append D (e ∷ l) m (s .1) t some sm g)
 
 -- two dots that move, the right one at least as far
-gap-moved : {D : ℕ} {d e : Dot} (a b : ℤ) (i k : ℕ) → AtMost a b → i ≤ k → Gap D d e
+gap-moved : {D : Distance} {d e : Dot} (a b : ℤ) (i k : ℕ) → AtMost a b → i ≤ k → Gap D d e
     → Gap D (dot i (d .node) (d .place +ℤ a)) (dot k (e .node) (e .place +ℤ b))
 gap-moved {D} {d} {e} a b i k further order g =
     record {
-      apart = omega (arith, parts-add (d .place) (pos D), parts-add (d .place) a, parts-add (d .place +ℤ a) (pos D), parts-add (e .place) b);
+      apart = let n = D (d .node) (e .node) in omega (arith, parts-add (d .place) (pos n), parts-add (d .place) a, parts-add (d .place +ℤ a) (pos n), parts-add (e .place) b);
       order = order;
     }
 
 -- ---- levels of a row of j children
 
-pub record Row (D j : ℕ) (xs : List (List Dot)) : Type 0 where
+pub record Row (D : Distance) (j : ℕ) (xs : List (List Dot)) : Type 0 where
   pub some : All Some xs
   pub spaced : All (Spaced D) xs
   pub falling : Falling j xs
   pub tags : All (All (λ e. e .child < j)) xs
 
 -- levels of one child, with the number j
-pub record Child (D j : ℕ) (ys : List (List Dot)) : Type 0 where
+pub record Child (D : Distance) (j : ℕ) (ys : List (List Dot)) : Type 0 where
   pub some : All Some ys
   pub spaced : All (Spaced D) ys
   pub tags : All (All (λ e. e .child ≡ j)) ys
 
 -- the row's last dot keeps its distance from the child's first on each level that both have
-abbrev pub Touch : ℕ → List (List Dot) → List (List Dot) → Type 0
+abbrev pub Touch : Distance → List (List Dot) → List (List Dot) → Type 0
 Touch D [] ys = Unit {0}
 Touch D (x ∷ xs) [] = Unit {0}
 Touch D (x ∷ xs) (y ∷ ys) = Gap D (lastOf x) (firstOf y) × Touch D xs ys
@@ -78,7 +79,7 @@ beside-all P (x ∷ xs) (y ∷ ys) a b = (all-append P x y (a .0) (b .0), beside
 pub levels-weaken : (P Q : Dot → Type 0) → ((e : Dot) → P e → Q e) → (xs : List (List Dot)) → All (All P) xs → All (All Q) xs
 levels-weaken P Q h = all-weaken (All P) (All Q) (all-weaken P Q h)
 
-module _ (D j : ℕ) where
+module _ (D : Distance) (j : ℕ) where
   beside-spaced : (xs ys : List (List Dot)) → All Some xs → All Some ys → All (Spaced D) xs → All (Spaced D) ys → Touch D xs ys → All (Spaced D) (beside xs ys)
   beside-spaced [] ys p q a b t = b
   beside-spaced (x ∷ xs) [] p q a b t = a
@@ -107,7 +108,7 @@ module _ (D j : ℕ) where
 
 -- ---- levels whose dots are moved, each two keeping their distance
 
-module _ (D : ℕ) (g : Dot → Dot) (keeps : (d e : Dot) → Gap D d e → Gap D (g d) (g e)) where
+module _ (D : Distance) (g : Dot → Dot) (keeps : (d e : Dot) → Gap D d e → Gap D (g d) (g e)) where
   some-moved : (xs : List (List Dot)) → All Some xs → All Some (map (map g) xs)
   some-moved = all-map (map g) Some Some one
     where
@@ -135,7 +136,7 @@ falling-move : (m : ℕ → ℕ) (c : ℕ) (xs : List (List Dot)) → All Some x
 falling-move m c [] s f = tt
 falling-move m c (x ∷ xs) s f = rw (last-map (moveBy m) x (s .0)) (f .0, falling-move m ((lastOf x) .child) xs (s .1) (f .1))
 
-row-move : (D j : ℕ) (m : ℕ → ℕ) → ((p r : ℕ) → p ≤ r → m p ≤ m r) → (xs : List (List Dot)) → Row D j xs → Row D j (map (map (moveBy m)) xs)
+row-move : (D : Distance) (j : ℕ) (m : ℕ → ℕ) → ((p r : ℕ) → p ≤ r → m p ≤ m r) → (xs : List (List Dot)) → Row D j xs → Row D j (map (map (moveBy m)) xs)
 row-move D j m mono xs R =
     record {
       some = some-moved D (moveBy m) keeps xs (R .some);
@@ -147,16 +148,16 @@ row-move D j m mono xs R =
     keeps : (d e : Dot) → Gap D d e → Gap D (moveBy m d) (moveBy m e)
     keeps d e g = gap-moved _ _ _ _ (omega (arith, mono (d .child) (e .child) (g .order))) (g .order) g
 
-child-shift : (D j : ℕ) (c : ℤ) (ys : List (List Dot)) → Child D j ys → Child D j (map (map (shiftBy c)) ys)
+child-shift : (D : Distance) (j : ℕ) (c : ℤ) (ys : List (List Dot)) → Child D j ys → Child D j (map (map (shiftBy c)) ys)
 child-shift D j c ys C =
     child-moved D (shiftBy c) (λ d e g. gap-moved c c _ _ (le-refl _) (g .order) g) (λ e. e .child ≡ j) j (λ e h. h) ys (C .some) (C .spaced) (C .tags)
 
-pub row-child : (D i w : ℕ) (o : ℤ) (d : Drawing) → Row D w (rowDots 0 d) → Child D i (dots i o d)
+pub row-child : (D : Distance) (i w : ℕ) (o : ℤ) (d : Drawing) → Row D w (rowDots 0 d) → Child D i (dots i o d)
 row-child D i w o d R =
     rw (dots-row i 0 o d)
     (child-moved D (settle i o) (λ d e g. gap-moved o o i i (le-refl _) (le-refl i) g) (λ e. e .child < w) i (λ e h. refl) (rowDots 0 d) (R .some) (R .spaced) (R .tags))
 
-pub seams-touch : (D j : ℕ) (m : ℕ → ℕ) (t : ℕ) (xs ys : List (List Dot)) → All Some xs → All Some ys
+pub seams-touch : (D : Distance) (j : ℕ) (m : ℕ → ℕ) (t : ℕ) (xs ys : List (List Dot)) → All Some xs → All Some ys
     → All (All (λ e. e .child < j)) xs → All (All (λ e. e .child ≡ j)) ys → Seams D m t xs ys
     → Touch D (map (map (moveBy m)) xs) (map (map (shiftBy (pos t))) ys)
 seams-touch D j m t [] ys p q a b s = tt
@@ -170,13 +171,13 @@ seams-touch D j m t (x ∷ xs) (y ∷ ys) p q a b s = (
   seams-touch D j m t xs ys (p .1) (q .1) (a .1) (b .1) (s .1),
 )
 
-pub alone-child : (D i w v x : ℕ) (below : Drawing) → Row D w (rowDots 0 below) → Child D i (dots i (pos 0) (alone v x below))
+pub alone-child : (D : Distance) (i w v x : ℕ) (below : Drawing) → Row D w (rowDots 0 below) → Child D i (dots i (pos 0) (alone v x below))
 alone-child D i w v x below R =
     let C = row-child D i w (pos (0 + x) -ℤ pos (middle below)) below R in
     record { some = (some, C .some); spaced = (tt, C .spaced); tags = ((refl, tt), C .tags) }
 
 -- the walk down a row and a new child, from the first level on
-pub row-walk : {D j : ℕ} (xs ys : List (List Dot)) → Row D j xs
+pub row-walk : {D : Distance} {j : ℕ} (xs ys : List (List Dot)) → Row D j xs
     → Walking D j j 0 xs ys (shares j (meet D 0 (rightContour xs) (leftContour ys))) (total (meet D 0 (rightContour xs) (leftContour ys)))
 row-walk {D} {j} xs ys R = record { falling = R .falling; owned = each xs (R .some) (R .tags); moves = λ p h. refl; whole = omega arith }
   where
@@ -186,7 +187,7 @@ row-walk {D} {j} xs ys R = record { falling = R .falling; owned = each xs (R .so
 
 -- ---- every row that is drawn
 
-pub row-join : (D : ℕ) (row : Drawing) (v : ℕ) (below : Drawing) → Row D (width row) (rowDots 0 row) → Row D (width below) (rowDots 0 below)
+pub row-join : (D : Distance) (row : Drawing) (v : ℕ) (below : Drawing) → Row D (width row) (rowDots 0 row) → Row D (width below) (rowDots 0 below)
     → Row D (width (join D row v below)) (rowDots 0 (join D row v below))
 row-join D row v below R B =
     subst₂ (Row D) (sym (width-join D row v below)) (sym (rowDots-join D row v below))
@@ -212,10 +213,10 @@ row-join D row v below R B =
     C : Child D j ys
     C = alone-child D (width row) (width below) v (start D row v) below B
 
-pub row-none : (D : ℕ) → Row D 0 []
+pub row-none : (D : Distance) → Row D 0 []
 row-none D = record { some = tt; spaced = tt; falling = tt; tags = tt }
 
-pub row-drawOnto : (D : ℕ) (row : Drawing) (f : Forest) → Row D (width row) (rowDots 0 row) → Row D (width (drawOnto D row f)) (rowDots 0 (drawOnto D row f))
+pub row-drawOnto : (D : Distance) (row : Drawing) (f : Forest) → Row D (width row) (rowDots 0 row) → Row D (width (drawOnto D row f)) (rowDots 0 (drawOnto D row f))
 row-drawOnto D row nil R = R
 row-drawOnto D row (node v f g) R =
     row-drawOnto D (join D row v (drawOnto D none f)) g (row-join D row v (drawOnto D none f) R (row-drawOnto D none f (row-none D)))

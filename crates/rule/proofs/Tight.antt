@@ -1,11 +1,12 @@
 -- No slack at the last child: at every node with two or more children, some pair of neighbours, the right one in the last child's subtree
--- and the left one in an earlier child's, stands exactly at the separation. Assumes nothing.
+-- and the left one in an earlier child's, stands exactly at the distance that the two need. Assumes nothing.
 use mathlib.Core.Path.{_≡_, refl, sym, ap, _∙_, subst}
 use mathlib.Core.List.{List, _++_, map}
 use Prim.Native.Nat.{ℕ, suc, _+_, _≤_, _<_}
 use native.Mathlib.Omega.{arith}
 use lib.ListN.{length}
 use lib.IntN.{ℤ, pos, _+ℤ_, _-ℤ_}
+use Rattle.distance.specs.Needed.{Distance}
 use Rattle.tree.specs.Numbers.{count}
 use Rattle.tree.specs.Table.{nodes}
 use Rattle.tree.specs.Forest.{Forest, nil, node, join as joinForest, treeOf, preorder, roots, size}
@@ -32,13 +33,13 @@ use Rattle.rule.proofs.Promises.{measured-neighbours, stands-at, part-a
 
 -- ---- one forest behind another is drawn one after the other
 
-pub drawOnto-join : (D : ℕ) (row : Drawing) (f g : Forest) → drawOnto D row (joinForest f g) ≡ drawOnto D (drawOnto D row f) g
+pub drawOnto-join : (D : Distance) (row : Drawing) (f g : Forest) → drawOnto D row (joinForest f g) ≡ drawOnto D (drawOnto D row f) g
 drawOnto-join D row nil g = refl
 drawOnto-join D row (node v f h) g = drawOnto-join D (join D row v (drawOnto D none f)) h g
 
 -- ---- pairs that a part of the forest measures are measured
 
-record-join : (a b D : ℕ) (row : Drawing) (f g : Forest)
+record-join : (a b : ℕ) (D : Distance) (row : Drawing) (f g : Forest)
     → pairCount a b (recordOnto D row (joinForest f g)) ≡ pairCount a b (recordOnto D row f) + pairCount a b (recordOnto D (drawOnto D row f) g)
 record-join a b D row nil g = omega arith
 record-join a b D row (node v f h) g =
@@ -51,7 +52,7 @@ record-join a b D row (node v f h) g =
     )
 
 -- the pairs of one join
-record-node : (a b D : ℕ) (row : Drawing) (v : ℕ) (f g : Forest)
+record-node : (a b : ℕ) (D : Distance) (row : Drawing) (v : ℕ) (f g : Forest)
     → pairCount a b (recordOnto D none f) + pairCount a b (measured D row v (draw D f)) + pairCount a b (recordOnto D (join D row v (draw D f)) g)
     ≡ pairCount a b (recordOnto D row (node v f g))
 record-node a b D row v f g =
@@ -61,7 +62,7 @@ record-node a b D row v f g =
       pairCount-append a b (recordOnto D none f) (measured D row v (draw D f)),
     )
 
-record-part : (a b D : ℕ) (row : Drawing) {v : ℕ} {f g h : Forest} → Part (node v f g) h → pairCount a b (recordOnto D none f) ≤ pairCount a b (recordOnto D row h)
+record-part : (a b : ℕ) (D : Distance) (row : Drawing) {v : ℕ} {f g h : Forest} → Part (node v f g) h → pairCount a b (recordOnto D none f) ≤ pairCount a b (recordOnto D row h)
 record-part a b D row {v} {f} {g} whole = omega (arith, record-node a b D row v f g)
 record-part a b D row (in-children {v = u} {f = f} {h = g} p) = omega (arith, record-node a b D row u f g, record-part a b D none p)
 record-part a b D row (in-siblings {v = u} {f = f} {h = g} p) = omega (arith, record-node a b D row u f g, record-part a b D (join D row u (draw D f)) p)
@@ -107,12 +108,12 @@ on-names d ls same e l o =
       count-levels (e .node) (names d),
     )
 
-recorded-is : (D : ℕ) (t : List ℕ) → recorded D t ≡ recordOnto D none (treeOf t)
+recorded-is : (D : Distance) (t : List ℕ) → recorded D t ≡ recordOnto D none (treeOf t)
 unfolding recorded
 recorded-is D t = refl
 
--- neighbours below node v, the left one in an earlier child's subtree and the right one in the last child's, that stand at the separation
-pub record ExactPair (D : ℕ) (t : List ℕ) (v : ℕ) : Type 0 where
+-- neighbours below node v, the left one in an earlier child's subtree and the right one in the last child's, that stand at the distance that they need
+pub record ExactPair (D : Distance) (t : List ℕ) (v : ℕ) : Type 0 where
   pub earlier : Forest
   pub last : ℕ
   pub below : Forest
@@ -122,9 +123,9 @@ pub record ExactPair (D : ℕ) (t : List ℕ) (v : ℕ) : Type 0 where
   pub left-in : 1 ≤ count left (preorder earlier)
   pub right-in : 1 ≤ count right (preorder (node last below nil))
   pub side-by-side : 1 ≤ pairCount left right (neighbours t)
-  pub exactly : place D t right ≡ place D t left +ℤ pos D
+  pub exactly : place D t right ≡ place D t left +ℤ pos (D left right)
 
-pub no-slack : (D : ℕ) (t : List ℕ) → tableNumber t ≡ 0 → (v : ℕ) → v < nodes t → 2 ≤ length (roots (under t v)) → ExactPair D t v
+pub no-slack : (D : Distance) (t : List ℕ) → tableNumber t ≡ 0 → (v : ℕ) → v < nodes t → 2 ≤ length (roots (under t v)) → ExactPair D t v
 no-slack D t accepted v h two =
     record {
       earlier = earlier;
@@ -207,9 +208,9 @@ no-slack D t accepted v h two =
         (S .under _ (M .level) (subst (OnLevel (settle 0 o (shiftBy (pos (total ms)) (M .right))) (M .level)) (sym levels-below)
         (on-move (settle 0 o) _ (on-right (map (map (moveBy (shares j ms))) (rowDots 0 row)) (on-move (shiftBy (pos (total ms))) ys (M .on-child))))))
 
-    exactly : place D t (M .right .node) ≡ place D t (M .left .node) +ℤ pos D
+    exactly : place D t (M .right .node) ≡ place D t (M .left .node) +ℤ pos (D (M .left .node) (M .right .node))
     exactly =
-        parts-eq (place D t (M .right .node)) (place D t (M .left .node) +ℤ pos D)
+        parts-eq (place D t (M .right .node)) (place D t (M .left .node) +ℤ pos (D (M .left .node) (M .right .node)))
         (omega (
           arith,
           M .stays,
@@ -223,8 +224,8 @@ no-slack D t accepted v h two =
           parts-add (M .left .place +ℤ pos (shares j ms (M .left .child))) o,
           parts-add (M .right .place) (pos (total ms)),
           parts-add (M .right .place +ℤ pos (total ms)) o,
-          parts-add (M .left .place) (pos D),
-          parts-add (place D t (M .left .node)) (pos D),
+          parts-add (M .left .place) (pos (D (M .left .node) (M .right .node))),
+          parts-add (place D t (M .left .node)) (pos (D (M .left .node) (M .right .node))),
         ))
 
     side-by-side : 1 ≤ pairCount (M .left .node) (M .right .node) (neighbours t)

@@ -6,9 +6,10 @@ use Prim.Native.Nat.{ℕ, _+_, _≤_}
 use native.Mathlib.Nat.{le-trans, le-refl}
 use native.Mathlib.Omega.{arith}
 use lib.IntN.{ℤ, pos, _+ℤ_, _-ℤ_}
+use Rattle.distance.specs.Needed.{Distance}
 use Rattle.tree.proofs.Counting.{All}
 use Rattle.rule.specs.Drawing.{Dot, firstOf, lastOf, leftContour, rightContour}
-use Rattle.rule.specs.Join.{Meeting, shortfall, needed, meet, shares, total}
+use Rattle.rule.specs.Join.{Meeting, shortfall, meet, shares, total}
 use Rattle.rule.proofs.Signed.{parts-add, parts-sub, AtMost}
 use Rattle.rule.proofs.Shares.{shares-le, share-none}
 
@@ -18,29 +19,29 @@ Falling c [] = Unit {0}
 Falling c (x ∷ xs) = ((lastOf x) .child ≤ c) × Falling ((lastOf x) .child) xs
 
 -- on every level that both have, the row's last dot, moved by m, keeps its distance from the new child's first dot, moved by t
-abbrev pub Seams : ℕ → (ℕ → ℕ) → ℕ → List (List Dot) → List (List Dot) → Type 0
+abbrev pub Seams : Distance → (ℕ → ℕ) → ℕ → List (List Dot) → List (List Dot) → Type 0
 Seams D m t [] ys = Unit {0}
 Seams D m t (x ∷ xs) [] = Unit {0}
 Seams D m t (x ∷ xs) (y ∷ ys) =
-    AtMost ((lastOf x) .place +ℤ pos (m ((lastOf x) .child)) +ℤ pos D) ((firstOf y) .place +ℤ pos t) × Seams D m t xs ys
+    AtMost ((lastOf x) .place +ℤ pos (m ((lastOf x) .child)) +ℤ pos (D ((lastOf x) .node) ((firstOf y) .node))) ((firstOf y) .place +ℤ pos t) × Seams D m t xs ys
 
 -- The walk from a level on. The new child, with the number j, has moved by `moved` so far and moves by t in all; a child up to c, the one
 -- that was met last, moves by its shares in what is yet to be met.
-pub record Walking (D j c moved : ℕ) (xs ys : List (List Dot)) (m : ℕ → ℕ) (t : ℕ) : Type 0 where
+pub record Walking (D : Distance) (j c moved : ℕ) (xs ys : List (List Dot)) (m : ℕ → ℕ) (t : ℕ) : Type 0 where
   pub falling : Falling c xs
   pub owned : All (λ x. (lastOf x) .child ≤ j) xs
   pub moves : (p : ℕ) → p ≤ c → m p ≡ shares j (meet D moved (rightContour xs) (leftContour ys)) p
   pub whole : t ≡ moved + total (meet D moved (rightContour xs) (leftContour ys))
 
 -- what is met on a level
-abbrev pub met : ℕ → ℕ → List Dot → List Dot → Meeting
+abbrev pub met : Distance → ℕ → List Dot → List Dot → Meeting
 met D moved x y =
     record {
       child = (lastOf x) .child;
-      amount = shortfall (needed D ((lastOf x) .node) ((firstOf y) .node)) ((lastOf x) .place) ((firstOf y) .place +ℤ pos moved);
+      amount = shortfall (D ((lastOf x) .node) ((firstOf y) .node)) ((lastOf x) .place) ((firstOf y) .place +ℤ pos moved);
     }
 
-module _ {D j c moved : ℕ} {x y : List Dot} {xs ys : List (List Dot)} {m : ℕ → ℕ} {t : ℕ} (W : Walking D j c moved (x ∷ xs) (y ∷ ys) m t) where
+module _ {D : Distance} {j c moved : ℕ} {x y : List Dot} {xs ys : List (List Dot)} {m : ℕ → ℕ} {t : ℕ} (W : Walking D j c moved (x ∷ xs) (y ∷ ys) m t) where
   -- the walk from the next level on
   pub walk-on : Walking D j ((lastOf x) .child) (moved + met D moved x y .amount) xs ys m t
   walk-on =
@@ -62,30 +63,31 @@ module _ {D j c moved : ℕ} {x y : List Dot} {xs ys : List (List Dot)} {m : ℕ
       )
 
 -- what a shortfall says: moved by it, the node on the right keeps its distance
-shortfall-enough : (D : ℕ) (a b : ℤ) (moved : ℕ) → AtMost (a +ℤ pos D) (b +ℤ pos (moved + shortfall D a (b +ℤ pos moved)))
-shortfall-enough D a b moved =
+shortfall-enough : (d : ℕ) (a b : ℤ) (moved : ℕ) → AtMost (a +ℤ pos d) (b +ℤ pos (moved + shortfall d a (b +ℤ pos moved)))
+shortfall-enough d a b moved =
     omega (
       arith,
-      parts-add a (pos D),
+      parts-add a (pos d),
       parts-add b (pos moved),
       parts-sub (b +ℤ pos moved) a,
-      parts-sub (pos D) (b +ℤ pos moved -ℤ a),
-      parts-add b (pos (moved + shortfall D a (b +ℤ pos moved))),
+      parts-sub (pos d) (b +ℤ pos moved -ℤ a),
+      parts-add b (pos (moved + shortfall d a (b +ℤ pos moved))),
     )
 
-pub walk-seams : {D j c moved : ℕ} (xs ys : List (List Dot)) {m : ℕ → ℕ} {t : ℕ} → Walking D j c moved xs ys m t → Seams D m t xs ys
+pub walk-seams : {D : Distance} {j c moved : ℕ} (xs ys : List (List Dot)) {m : ℕ → ℕ} {t : ℕ} → Walking D j c moved xs ys m t → Seams D m t xs ys
 walk-seams [] ys W = tt
 walk-seams (x ∷ xs) [] W = tt
-walk-seams {D = D} {moved = moved} (x ∷ xs) (y ∷ ys) {m} {t} W = (
-  omega (
-    arith,
-    shortfall-enough D ((lastOf x) .place) ((firstOf y) .place) moved,
-    met-moves W,
-    parts-add ((lastOf x) .place) (pos D),
-    parts-add ((lastOf x) .place) (pos (m ((lastOf x) .child))),
-    parts-add ((lastOf x) .place +ℤ pos (m ((lastOf x) .child))) (pos D),
-    parts-add ((firstOf y) .place) (pos (moved + met D moved x y .amount)),
-    parts-add ((firstOf y) .place) (pos t),
-  ),
-  walk-seams xs ys (walk-on W),
-)
+walk-seams {D = D} {moved = moved} (x ∷ xs) (y ∷ ys) {m} {t} W =
+    let d = D ((lastOf x) .node) ((firstOf y) .node) in (
+      omega (
+        arith,
+        shortfall-enough d ((lastOf x) .place) ((firstOf y) .place) moved,
+        met-moves W,
+        parts-add ((lastOf x) .place) (pos d),
+        parts-add ((lastOf x) .place) (pos (m ((lastOf x) .child))),
+        parts-add ((lastOf x) .place +ℤ pos (m ((lastOf x) .child))) (pos d),
+        parts-add ((firstOf y) .place) (pos (moved + met D moved x y .amount)),
+        parts-add ((firstOf y) .place) (pos t),
+      ),
+      walk-seams xs ys (walk-on W),
+    )

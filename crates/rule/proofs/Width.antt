@@ -1,4 +1,4 @@
--- How wide a drawing is: joining adds at most the separation, so a forest of m nodes spans at most m - 1 separations. Assumes nothing.
+-- How wide a drawing is: where no two nodes need more than W, joining adds at most W, so a forest of m nodes spans at most m - 1 times W. Assumes nothing.
 use mathlib.Core.Path.{_≡_, refl, sym, ap, _∙_, subst, subst₂}
 use mathlib.Core.Logic.{_⊎_, inl, inr, ⊎-elim}
 use mathlib.Core.List.{List, [], _∷_, map, List·Memᴰ·head, List·Memᴰ·cases-cons, List·Memᴰ·not-nil, List·Memᴰ·eq-of-singleton}
@@ -6,6 +6,7 @@ use Prim.Native.Nat.{ℕ, zero, suc, _+_, _*_, _≤_}
 use native.Mathlib.Nat.{not-suc-le-zero, le-refl}
 use native.Mathlib.Omega.{arith}
 use lib.IntN.{ℤ, pos, _+ℤ_, _-ℤ_}
+use Rattle.distance.specs.Needed.{Distance}
 use Rattle.tree.specs.Forest.{Forest, nil, node, size}
 use Rattle.tree.specs.Levels.{beside}
 use Rattle.tree.proofs.Counting.{below-or-not}
@@ -41,7 +42,8 @@ narrow-map w c g h xs n e f l k o p =
 
 -- Where every dot of the row stays or is led, a dot of the join is not right of a dot of the row as it was, or of one of the child as it
 -- is now; and it is not left of one.
-module _ (D : ℕ) (m : ℕ → ℕ) (t : ℕ) (xs ys : List (List Dot)) (w v : ℕ) (nx : Narrow w xs) (ny : Narrow v ys) (M : Measured D m t xs ys)
+module _ (D : Distance) (W : ℕ) (most : (a b : ℕ) → D a b ≤ W) (m : ℕ → ℕ) (t : ℕ) (xs ys : List (List Dot)) (w v : ℕ) (nx : Narrow w xs) (ny : Narrow v ys)
+    (M : Measured D m t xs ys)
     (led : (d : Dot) (l : ℕ) → OnLevel d l xs → (m (d .child) ≡ 0) ⊎ Led m t d l ys) where
   abbrev joined : List (List Dot)
   joined = beside (map (map (moveBy m)) xs) (map (map (shiftBy (pos t))) ys)
@@ -62,15 +64,16 @@ module _ (D : ℕ) (m : ℕ → ℕ) (t : ℕ) (xs ys : List (List Dot)) (w v : 
       (on-moved (shiftBy (pos t)) ys (λ f. Bound (λ z. AtMost z (f .place))) (λ d p. inr (d, l, p, le-refl _)) f)
       (on-cases (map (map (moveBy m)) xs) (map (map (shiftBy (pos t))) ys) o)
 
-  narrow-join : Narrow (w + v + D) joined
+  narrow-join : Narrow (w + v + W) joined
   narrow-join e f l k o p =
       let left = M .left .place in
       let right = M .right .place in
-      let past = parts-add (f .place) (pos (w + v + D)) in
+      let past = parts-add (f .place) (pos (w + v + W)) in
+      let bound = most (M .left .node) (M .right .node) in
       let above = ap above0 (M .exactly) in
       let below = ap below0 (M .exactly) in
       let new = parts-add right (pos t) in
-      let old = parts-add left (pos D) in
+      let old = parts-add left (pos (D (M .left .node) (M .right .node))) in
       ⊎-elim (λ a.
       ⊎-elim (λ b. omega (arith, nx (a .0) (b .0) (a .1) (b .1) (a .2) (b .2), parts-add (b .0 .place) (pos w)))
       (λ b.
@@ -177,28 +180,28 @@ narrow-alone w i v x (at u y b c) n =
 
 -- the width that m nodes may take
 abbrev pub span : ℕ → ℕ → ℕ
-span D zero = 0
-span D (suc m) = m * D
+span W zero = 0
+span W (suc m) = m * W
 
-span-mono : (D m : ℕ) → span D m ≤ m * D
-span-mono D zero = omega arith
-span-mono D (suc m) = omega arith
+span-mono : (W m : ℕ) → span W m ≤ m * W
+span-mono W zero = omega arith
+span-mono W (suc m) = omega arith
 
 narrow-wider : (w v : ℕ) (xs : List (List Dot)) → w ≤ v → Narrow w xs → Narrow v xs
 narrow-wider w v xs h n e f l k o p = omega (arith, n e f l k o p, parts-add (f .place) (pos w), parts-add (f .place) (pos v))
 
-narrow-row-join : (D : ℕ) (row : Drawing) (v : ℕ) (below : Drawing) → Row D (width row) (rowDots 0 row) → Row D (width below) (rowDots 0 below)
-    → Narrow (span D (size (names row))) (rowDots 0 row) → Narrow (span D (size (names below))) (rowDots 0 below)
-    → Narrow (span D (size (names (join D row v below)))) (rowDots 0 (join D row v below))
-narrow-row-join D none v below R B n b =
-    let fits : span D (size (names below)) ≤ (size (names below) + 0) * D = omega (arith, span-mono D (size (names below))) in
-    subst₂ Narrow (sym (ap (λ (f : Forest). span D (size f)) (names-join D none v below))) (sym (rowDots-join D none v below))
+narrow-row-join : (D : Distance) (W : ℕ) → ((a b : ℕ) → D a b ≤ W) → (row : Drawing) (v : ℕ) (below : Drawing) → Row D (width row) (rowDots 0 row) → Row D (width below) (rowDots 0 below)
+    → Narrow (span W (size (names row))) (rowDots 0 row) → Narrow (span W (size (names below))) (rowDots 0 below)
+    → Narrow (span W (size (names (join D row v below)))) (rowDots 0 (join D row v below))
+narrow-row-join D W most none v below R B n b =
+    let fits : span W (size (names below)) ≤ (size (names below) + 0) * W = omega (arith, span-mono W (size (names below))) in
+    subst₂ Narrow (sym (ap (λ (f : Forest). span W (size f)) (names-join D none v below))) (sym (rowDots-join D none v below))
     (narrow-map _ (pos 0) (shiftBy (pos 0)) (λ e. refl) (dots 0 (pos 0) (alone v 0 below))
-    (narrow-wider (span D (size (names below))) _ (dots 0 (pos 0) (alone v 0 below)) fits (narrow-alone (span D (size (names below))) 0 v 0 below b)))
-narrow-row-join D (at u x under after) v below R B n b =
+    (narrow-wider (span W (size (names below))) _ (dots 0 (pos 0) (alone v 0 below)) fits (narrow-alone (span W (size (names below))) 0 v 0 below b)))
+narrow-row-join D W most (at u x under after) v below R B n b =
     subst₂ Narrow (sym sizes) (sym (rowDots-join D row v below))
-    (narrow-join D m (total ms) xs ys (span D (size (names row))) (size (names below) * D) n
-    (narrow-wider (span D (size (names below))) _ ys (span-mono D (size (names below))) (narrow-alone (span D (size (names below))) j v (start D row v) below b))
+    (narrow-join D W most m (total ms) xs ys (span W (size (names row))) (size (names below) * W) n
+    (narrow-wider (span W (size (names below))) _ ys (span-mono W (size (names below))) (narrow-alone (span W (size (names below))) j v (start D row v) below b))
     (exact-dots D m (total ms) xs ys (R .some) (C .some) (join-exact D u x under after v below R))
     (stay-or-led xs ys (shares-mono j ms) (R .spaced) (C .some) (row-walk xs ys R)))
   where
@@ -223,25 +226,25 @@ narrow-row-join D (at u x under after) v below R B n b =
     C : Child D j ys
     C = alone-child D j (width below) v (start D row v) below B
 
-    sizes : span D (size (names (join D row v below))) ≡ span D (size (names row)) + size (names below) * D + D
+    sizes : span W (size (names (join D row v below))) ≡ span W (size (names row)) + size (names below) * W + W
     sizes =
         let counted : size (names row) + size (node v (names below) nil) ≡ suc ((size (names under) + size (names after)) + suc (size (names below))) = omega arith in
-        ap (λ (f : Forest). span D (size f)) (names-join D row v below) ∙ ap (span D) (size-join (names row) (node v (names below) nil) ∙ counted) ∙ omega arith
+        ap (λ (f : Forest). span W (size f)) (names-join D row v below) ∙ ap (span W) (size-join (names row) (node v (names below) nil) ∙ counted) ∙ omega arith
 
-pub narrow-none : (D : ℕ) → Narrow 0 []
-narrow-none D e f l k o p = absurd (not-suc-le-zero (on-some o))
+pub narrow-none : Narrow 0 []
+narrow-none e f l k o p = absurd (not-suc-le-zero (on-some o))
 
-pub narrow-drawOnto : (D : ℕ) (row : Drawing) (f : Forest) → Row D (width row) (rowDots 0 row) → Narrow (span D (size (names row))) (rowDots 0 row)
-    → Narrow (span D (size (names (drawOnto D row f)))) (rowDots 0 (drawOnto D row f))
-narrow-drawOnto D row nil R n = n
-narrow-drawOnto D row (node v f g) R n =
+pub narrow-drawOnto : (D : Distance) (W : ℕ) → ((a b : ℕ) → D a b ≤ W) → (row : Drawing) (f : Forest) → Row D (width row) (rowDots 0 row) → Narrow (span W (size (names row))) (rowDots 0 row)
+    → Narrow (span W (size (names (drawOnto D row f)))) (rowDots 0 (drawOnto D row f))
+narrow-drawOnto D W most row nil R n = n
+narrow-drawOnto D W most row (node v f g) R n =
     let B = row-drawOnto D none f (row-none D) in
-    narrow-drawOnto D (join D row v (drawOnto D none f)) g (row-join D row v (drawOnto D none f) R B)
-    (narrow-row-join D row v (drawOnto D none f) R B n (narrow-drawOnto D none f (row-none D) (narrow-none D)))
+    narrow-drawOnto D W most (join D row v (drawOnto D none f)) g (row-join D row v (drawOnto D none f) R B)
+    (narrow-row-join D W most row v (drawOnto D none f) R B n (narrow-drawOnto D W most none f (row-none D) narrow-none))
 
--- a drawing of m nodes spans at most m - 1 separations
-pub narrow-draw : (D i : ℕ) (o : ℤ) (f : Forest) → Narrow (span D (size f)) (dots i o (draw D f))
-narrow-draw D i o f =
+-- a drawing of m nodes spans at most m - 1 times W
+pub narrow-draw : (D : Distance) (W : ℕ) → ((a b : ℕ) → D a b ≤ W) → (i : ℕ) (o : ℤ) (f : Forest) → Narrow (span W (size f)) (dots i o (draw D f))
+narrow-draw D W most i o f =
     rw (dots-row i 0 o (draw D f))
-    (narrow-map (span D (size f)) o (settle i o) (λ e. refl) (rowDots 0 (draw D f))
-    (rw (names-draw D f) at (narrow-drawOnto D none f (row-none D) (narrow-none D))))
+    (narrow-map (span W (size f)) o (settle i o) (λ e. refl) (rowDots 0 (draw D f))
+    (rw (names-draw D f) at (narrow-drawOnto D W most none f (row-none D) narrow-none)))

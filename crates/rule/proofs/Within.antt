@@ -6,6 +6,7 @@ use Prim.Native.Nat.{ℕ, suc, _+_}
 use native.Mathlib.Nat.{zero-add, suc-add}
 use native.Mathlib.Omega.{arith}
 use lib.IntN.{ℤ, pos, _+ℤ_, _-ℤ_}
+use Rattle.distance.specs.Needed.{Distance}
 use Rattle.tree.specs.Forest.{Forest, nil, node}
 use Rattle.tree.proofs.Parts.{Part, whole, in-children, in-siblings}
 use Rattle.tree.specs.Levels.{Pair}
@@ -14,7 +15,7 @@ use Rattle.tree.proofs.Counting.{All, all-append, all-weaken}
 use Rattle.rule.proofs.Signed.{parts-add, parts-sub, parts-eq}
 use Rattle.rule.proofs.Names.{names}
 use Rattle.rule.proofs.OnLevel.{OnLevel, top, down, on-left, on-right}
-use Rattle.rule.proofs.Shapes.{blank, blank-middle}
+use Rattle.rule.proofs.Shapes.{renameDrawing, rename-middle}
 use Rattle.rule.specs.Drawing.{Drawing, none, at, width, append, firstPlace, middle, Dot, dot, dots}
 use Rattle.rule.specs.Join.{Meeting, spread, alone, join, meetings, settled}
 use Rattle.rule.specs.Rule.{drawOnto, draw}
@@ -40,14 +41,14 @@ has-right : {v : ℕ} {b e : Drawing} (d : Drawing) → Has v b e → Has v b (a
 has-right none h = h
 has-right (at u x under after) h = beyond (has-right after h)
 
-has-drawOnto : (D : ℕ) {v : ℕ} {b row : Drawing} (f : Forest) → Has v b row → Has v b (drawOnto D row f)
+has-drawOnto : (D : Distance) {v : ℕ} {b row : Drawing} (f : Forest) → Has v b row → Has v b (drawOnto D row f)
 has-drawOnto D nil h = h
 has-drawOnto D {row = row} (node u f g) h =
     has-drawOnto D g (has-left (alone u (settled D row u (drawOnto D none f)) (drawOnto D none f))
     (has-spread (width row) (meetings D row u (drawOnto D none f)) 0 h))
 
 -- what is drawn below a node of a forest is the drawing of the node's children
-pub has-draw : (D : ℕ) (row : Drawing) {v : ℕ} {a b f : Forest} → Part (node v a b) f → Has v (draw D a) (drawOnto D row f)
+pub has-draw : (D : Distance) (row : Drawing) {v : ℕ} {a b f : Forest} → Part (node v a b) f → Has v (draw D a) (drawOnto D row f)
 has-draw D row {v} {a} {b} whole =
     has-drawOnto D b (has-right (spread (width row) (meetings D row v (draw D a)) 0 row) here)
 has-draw D row {v} {a} (in-children {v = u} {f = f} {h = g} p) =
@@ -95,15 +96,15 @@ Alike none (at w y b′ a′) = ⊥
 Alike (at v x b a) none = ⊥
 Alike (at v x b a) (at w y b′ a′) = (x ≡ y) × (middle b ≡ middle b′) × Alike b b′ × Alike a a′
 
-pub blank-alike : (d e : Drawing) → blank d ≡ blank e → Alike d e
-blank-alike none none p = tt
-blank-alike none (at w y b′ a′) p = absurd (omega (arith, ap width p))
-blank-alike (at v x b a) none p = absurd (omega (arith, ap width p))
-blank-alike (at v x b a) (at w y b′ a′) p = (
+pub renamed-alike : (g h : ℕ → ℕ) (d e : Drawing) → renameDrawing g d ≡ renameDrawing h e → Alike d e
+renamed-alike g h none none p = tt
+renamed-alike g h none (at w y b′ a′) p = absurd (omega (arith, ap width p))
+renamed-alike g h (at v x b a) none p = absurd (omega (arith, ap width p))
+renamed-alike g h (at v x b a) (at w y b′ a′) p = (
   ap firstPlace p,
-  sym (blank-middle b) ∙ ap (λ (d : Drawing). middle (below-of d)) p ∙ blank-middle b′,
-  blank-alike b b′ (ap below-of p),
-  blank-alike a a′ (ap after-of p),
+  sym (rename-middle g b) ∙ ap (λ (d : Drawing). middle (below-of d)) p ∙ rename-middle h b′,
+  renamed-alike g h b b′ (ap below-of p),
+  renamed-alike g h a a′ (ap after-of p),
 )
   where
     below-of : Drawing → Drawing

@@ -4,9 +4,10 @@ use Prim.Native.Nat.{ℕ, zero, suc, _+_}
 use mathlib.Core.List.{List, [], _∷_}
 use lib.IntN.{pos}
 use lib.ListN.{length, drop}
+use Rattle.distance.specs.Needed.{Distance}
 use Rattle.tree.specs.Forest.{Forest, nil, node}
 use Rattle.rule.specs.Drawing.{Drawing, none, width, append, Dot, dots, leftContour}
-use Rattle.rule.specs.Join.{needed, shortfall, spread, start, alone, rowContour}
+use Rattle.rule.specs.Join.{shortfall, spread, start, alone, rowContour}
 
 -- a row, and the place of the child that is being joined to it
 pub record Joining : Type 0 where
@@ -18,31 +19,31 @@ abbrev pub withChild : Joining → ℕ → Drawing → Drawing
 withChild s v below = append (s .row) (alone v (s .place) below)
 
 -- one level, with what is left of the two contours from that level on
-abbrev pub step : ℕ → ℕ → Joining → List Dot → List Dot → Joining
-step separation j s [] ws = s
-step separation j s (a ∷ us) [] = s
-step separation j s (a ∷ us) (b ∷ ws) =
-    let amount = shortfall (needed separation (a .node) (b .node)) (a .place) (b .place) in
+abbrev pub step : Distance → ℕ → Joining → List Dot → List Dot → Joining
+step need j s [] ws = s
+step need j s (a ∷ us) [] = s
+step need j s (a ∷ us) (b ∷ ws) =
+    let amount = shortfall (need (a .node) (b .node)) (a .place) (b .place) in
     record { row = spread j (record { child = a .child; amount = amount } ∷ []) 0 (s .row); place = s .place + amount }
 
 -- level l of the walk
-abbrev pub walkLevel : ℕ → ℕ → ℕ → ℕ → Drawing → Joining → Joining
-walkLevel separation l j v below s =
-    step separation j s (drop l (rowContour (s .row))) (drop l (leftContour (dots j (pos 0) (alone v (s .place) below))))
+abbrev pub walkLevel : Distance → ℕ → ℕ → ℕ → Drawing → Joining → Joining
+walkLevel need l j v below s =
+    step need j s (drop l (rowContour (s .row))) (drop l (leftContour (dots j (pos 0) (alone v (s .place) below))))
 
 -- k levels from level l on
-abbrev pub walkDown : ℕ → ℕ → ℕ → ℕ → ℕ → Drawing → Joining → Joining
-walkDown separation zero l j v below s = s
-walkDown separation (suc k) l j v below s = walkDown separation k (suc l) j v below (walkLevel separation l j v below s)
+abbrev pub walkDown : Distance → ℕ → ℕ → ℕ → ℕ → Drawing → Joining → Joining
+walkDown need zero l j v below s = s
+walkDown need (suc k) l j v below s = walkDown need k (suc l) j v below (walkLevel need l j v below s)
 
 -- the join, for as many levels as the row's contour has
-abbrev pub joinAtOnce : ℕ → Drawing → ℕ → Drawing → Drawing
-joinAtOnce separation row v below =
-    let s = walkDown separation (length (rowContour row)) 0 (width row) v below (record { row = row; place = start separation row v }) in
+abbrev pub joinAtOnce : Distance → Drawing → ℕ → Drawing → Drawing
+joinAtOnce need row v below =
+    let s = walkDown need (length (rowContour row)) 0 (width row) v below (record { row = row; place = start need row v }) in
     withChild s v below
 
 -- the drawing of a forest by such joins
-abbrev pub drawOntoAtOnce : ℕ → Drawing → Forest → Drawing
-drawOntoAtOnce separation row nil = row
-drawOntoAtOnce separation row (node v below after) =
-    drawOntoAtOnce separation (joinAtOnce separation row v (drawOntoAtOnce separation none below)) after
+abbrev pub drawOntoAtOnce : Distance → Drawing → Forest → Drawing
+drawOntoAtOnce need row nil = row
+drawOntoAtOnce need row (node v below after) =
+    drawOntoAtOnce need (joinAtOnce need row v (drawOntoAtOnce need none below)) after

@@ -1,13 +1,11 @@
--- Joining the next child to a row of children: the walk down two contours, and what it moves.
+-- Joining the next child to a row of children: the walk down two contours, and what it moves. `need a b` is the distance that node b needs
+-- where it stands right of node a.
 use Prim.Native.Nat.{ℕ, _+_, _-_, _*_, _/_}
 use mathlib.Core.List.{List, [], _∷_}
 use lib.IntN.{ℤ, pos, negsuc, _+ℤ_, _-ℤ_}
+use Rattle.distance.specs.Needed.{Distance}
 use Rattle.tree.specs.Levels.{Pair}
 use Rattle.rule.specs.Drawing.{Drawing, none, at, width, append, Dot, dots, rowDots, leftContour, rightContour}
-
--- the distance that two neighbours need: the separation
-abbrev pub needed : ℕ → ℕ → ℕ → ℕ
-needed separation a b = separation
 
 -- ---- the walk
 
@@ -27,12 +25,12 @@ pub record Meeting : Type 0 where
 
 -- The right contour of what is joined and the left contour of the new subtree are walked downward until either has no further level.
 -- The new subtree has been moved by `moved` so far.
-abbrev pub meet : ℕ → ℕ → List Dot → List Dot → List Meeting
-meet separation moved [] ws = []
-meet separation moved (a ∷ us) [] = []
-meet separation moved (a ∷ us) (b ∷ ws) =
-    let s = shortfall (needed separation (a .node) (b .node)) (a .place) (b .place +ℤ pos moved) in
-    record { child = a .child; amount = s } ∷ meet separation (moved + s) us ws
+abbrev pub meet : Distance → ℕ → List Dot → List Dot → List Meeting
+meet need moved [] ws = []
+meet need moved (a ∷ us) [] = []
+meet need moved (a ∷ us) (b ∷ ws) =
+    let s = shortfall (need (a .node) (b .node)) (a .place) (b .place +ℤ pos moved) in
+    record { child = a .child; amount = s } ∷ meet need (moved + s) us ws
 
 -- each level walked measures one pair, the left node first
 abbrev pub measure : List Dot → List Dot → List Pair
@@ -74,11 +72,11 @@ spread j ms p (at v x below after) = at v (x + shares j ms p) below (spread j ms
 
 -- ---- the join
 
--- where child v starts: the first child at 0, any other at the needed distance after the child before it
-abbrev pub start : ℕ → Drawing → ℕ → ℕ
-start separation none v = 0
-start separation (at w x below none) v = x + needed separation w v
-start separation (at w x below (at u y under after)) v = start separation (at u y under after) v
+-- where child v starts: the first child at 0, any other at the distance that the two need after the child before it
+abbrev pub start : Distance → Drawing → ℕ → ℕ
+start need none v = 0
+start need (at w x below none) v = x + need w v
+start need (at w x below (at u y under after)) v = start need (at u y under after) v
 
 -- child v, with the drawing below it, at a place of the row
 abbrev pub alone : ℕ → ℕ → Drawing → Drawing
@@ -88,20 +86,20 @@ alone v x below = at v x below none
 abbrev pub rowContour : Drawing → List Dot
 rowContour row = rightContour (rowDots 0 row)
 
-abbrev pub newContour : ℕ → Drawing → ℕ → Drawing → List Dot
-newContour separation row v below = leftContour (dots (width row) (pos 0) (alone v (start separation row v) below))
+abbrev pub newContour : Distance → Drawing → ℕ → Drawing → List Dot
+newContour need row v below = leftContour (dots (width row) (pos 0) (alone v (start need row v) below))
 
-abbrev pub meetings : ℕ → Drawing → ℕ → Drawing → List Meeting
-meetings separation row v below = meet separation 0 (rowContour row) (newContour separation row v below)
+abbrev pub meetings : Distance → Drawing → ℕ → Drawing → List Meeting
+meetings need row v below = meet need 0 (rowContour row) (newContour need row v below)
 
 -- where child v stands after the walk
-abbrev pub settled : ℕ → Drawing → ℕ → Drawing → ℕ
-settled separation row v below = start separation row v + total (meetings separation row v below)
+abbrev pub settled : Distance → Drawing → ℕ → Drawing → ℕ
+settled need row v below = start need row v + total (meetings need row v below)
 
-abbrev pub join : ℕ → Drawing → ℕ → Drawing → Drawing
-join separation row v below =
-    append (spread (width row) (meetings separation row v below) 0 row) (alone v (settled separation row v below) below)
+abbrev pub join : Distance → Drawing → ℕ → Drawing → Drawing
+join need row v below =
+    append (spread (width row) (meetings need row v below) 0 row) (alone v (settled need row v below) below)
 
 -- the pairs that the join measures
-abbrev pub measured : ℕ → Drawing → ℕ → Drawing → List Pair
-measured separation row v below = measure (rowContour row) (newContour separation row v below)
+abbrev pub measured : Distance → Drawing → ℕ → Drawing → List Pair
+measured need row v below = measure (rowContour row) (newContour need row v below)

@@ -1,14 +1,15 @@
 -- What the layout of a table gives, for every input.
 use Prim.Native.Nat.{ℕ, _*_}
 use mathlib.Core.Path.{_≡_}
-use mathlib.Core.Bool.{Bool, cond, not, _||_, _&&_}
+use mathlib.Core.Bool.{Bool, cond, _||_}
 use mathlib.Core.List.{List, [], _∷_, _++_, map}
-use lib.Dec.{eqb, ltb, leb}
+use lib.Dec.{eqb, ltb}
 use lib.IntN.{ℤ, pos}
 use lib.Signed.{leZ}
 use lib.ListN.{length, replicate}
 use Rattle.refusal.specs.First.{_⇐_, first}
 use Rattle.refusal.specs.After.{granted, after}
+use Rattle.distance.specs.Needed.{Distance, needed, badSeparation, badHalfWidths}
 use Rattle.tree.specs.Numbers.{upTo}
 use Rattle.tree.specs.Table
 use Rattle.tree.specs.Levels
@@ -27,12 +28,12 @@ placeIn [] v = pos 0
 placeIn (e ∷ l) v = cond (eqb v (e .node)) (e .place) (placeIn l v)
 
 -- the place of node v in a table's drawing
-unfoldable pub place : ℕ → List ℕ → ℕ → ℤ
-place separation t v = placeIn (together (drawn separation t)) v
+unfoldable pub place : Distance → List ℕ → ℕ → ℤ
+place need t v = placeIn (together (drawn need t)) v
 
 -- places and levels by node number
-unfoldable pub placesOf : ℕ → List ℕ → List ℤ
-placesOf separation t = map (place separation t) (upTo (nodes t))
+unfoldable pub placesOf : Distance → List ℕ → List ℤ
+placesOf need t = map (place need t) (upTo (nodes t))
 
 unfoldable pub levelsOf : List ℕ → List ℕ
 levelsOf t = map (level t) (upTo (nodes t))
@@ -63,10 +64,6 @@ pub record Slices : Type 0 where
   pub theRecord : List ℕ
   pub work : List ℤ
 
--- 6: the separation is not in 1 to 1,024
-unfoldable pub badSeparation : ℕ → Bool
-badSeparation separation = not (leb 1 separation && leb separation 1024)
-
 -- 7: a slice of results is too short
 unfoldable pub shortResults : List ℕ → Slices → Bool
 shortResults t s = ltb (length (s .places)) (nodes t) || ltb (length (s .levels)) (nodes t) || ltb (length (s .theRecord)) (2 * nodes t)
@@ -75,9 +72,11 @@ shortResults t s = ltb (length (s .places)) (nodes t) || ltb (length (s .levels)
 unfoldable pub shortWork : List ℕ → Slices → Bool
 shortWork t s = ltb (length (s .work)) (16 * nodes t)
 
-unfoldable pub layoutNumber : List ℕ → ℕ → Slices → ℕ
-layoutNumber t separation s =
-    first (tableConditions t ++ (6 ⇐ badSeparation separation ∷ 7 ⇐ shortResults t s ∷ 8 ⇐ shortWork t s ∷ []))
+unfoldable pub layoutNumber : List ℕ → ℕ → List ℕ → Slices → ℕ
+layoutNumber t separation halfWidths s =
+    first
+    (tableConditions t
+    ++ (6 ⇐ badSeparation separation ∷ 17 ⇐ badHalfWidths (nodes t) halfWidths ∷ 7 ⇐ shortResults t s ∷ 8 ⇐ shortWork t s ∷ []))
 
 -- the result fields
 pub record Answer : Type 0 where
@@ -89,14 +88,14 @@ pub record Answer : Type 0 where
   pub pairs : ℕ
 
 -- what a call gives: the answer `a`, and the slices `u` where they held `s`
-pub record Layout (t : List ℕ) (separation : ℕ) (s : Slices) (a : Answer) (u : Slices) : Type 0 where
-  pub number : a .number ≡ layoutNumber t separation s
-  pub nodes : a .nodes ≡ granted (layoutNumber t separation s) (Table.nodes t) 0
-  pub levelCount : a .levels ≡ granted (layoutNumber t separation s) (Levels.levelCount t) 0
-  pub least : a .least ≡ granted (layoutNumber t separation s) (leastOf (placesOf separation t)) (pos 0)
-  pub greatest : a .greatest ≡ granted (layoutNumber t separation s) (greatestOf (placesOf separation t)) (pos 0)
-  pub pairs : a .pairs ≡ granted (layoutNumber t separation s) (length (neighbours t)) 0
-  pub places : u .places ≡ after (layoutNumber t separation s) (placesOf separation t) (s .places)
-  pub levels : u .levels ≡ after (layoutNumber t separation s) (levelsOf t) (s .levels)
-  pub theRecord : u .theRecord ≡ after (layoutNumber t separation s) (flat (neighbours t)) (s .theRecord)
-  pub work : u .work ≡ after (layoutNumber t separation s) (replicate (16 * Table.nodes t) (pos 0)) (s .work)
+pub record Layout (t : List ℕ) (separation : ℕ) (halfWidths : List ℕ) (s : Slices) (a : Answer) (u : Slices) : Type 0 where
+  pub number : a .number ≡ layoutNumber t separation halfWidths s
+  pub nodes : a .nodes ≡ granted (layoutNumber t separation halfWidths s) (Table.nodes t) 0
+  pub levelCount : a .levels ≡ granted (layoutNumber t separation halfWidths s) (Levels.levelCount t) 0
+  pub least : a .least ≡ granted (layoutNumber t separation halfWidths s) (leastOf (placesOf (needed separation halfWidths) t)) (pos 0)
+  pub greatest : a .greatest ≡ granted (layoutNumber t separation halfWidths s) (greatestOf (placesOf (needed separation halfWidths) t)) (pos 0)
+  pub pairs : a .pairs ≡ granted (layoutNumber t separation halfWidths s) (length (neighbours t)) 0
+  pub places : u .places ≡ after (layoutNumber t separation halfWidths s) (placesOf (needed separation halfWidths) t) (s .places)
+  pub levels : u .levels ≡ after (layoutNumber t separation halfWidths s) (levelsOf t) (s .levels)
+  pub theRecord : u .theRecord ≡ after (layoutNumber t separation halfWidths s) (flat (neighbours t)) (s .theRecord)
+  pub work : u .work ≡ after (layoutNumber t separation halfWidths s) (replicate (16 * Table.nodes t) (pos 0)) (s .work)

@@ -2,11 +2,13 @@
 use mathlib.Core.Path.{_≡_, refl, sym, ap, _∙_, subst}
 use mathlib.Core.List.{List}
 use Prim.Native.Nat.{ℕ, _+_, _*_, _^_, _≤_, _<_}
+use native.Mathlib.Nat.{le-refl}
 use native.Mathlib.Omega.{arith}
 use borrow.Author.Count.{below-more}
 use lib.IntN.{ℤ, pos, _+ℤ_}
 use lib.Signed.{mag}
 use lib.ListN.{length, drop}
+use Rattle.distance.specs.Needed.{Distance}
 use Rattle.tree.specs.Table.{nodes}
 use Rattle.tree.specs.WellFormed.{tableNumber}
 use Rattle.tree.proofs.LevelOf.{root-level}
@@ -18,14 +20,14 @@ use Rattle.level_order.proofs.Order.{node-below, root-first}
 use Rattle.second_walk.specs.SecondWalk.{FromParent, Ready, Descends, descended, Seen}
 use Rattle.second_walk.proofs.Positions.{numberAt, placeAt, levelAt}
 
-pub record Stands (D : ℕ) (t : List ℕ) (work : List ℤ) (q : ℕ) : Type 0 where
+pub record Stands (D : Distance) (t : List ℕ) (work : List ℤ) (q : ℕ) : Type 0 where
   pub place : get work PLACE q ≡ placeAt D t q
   pub level : get work LEVEL q ≡ pos (levelAt t q)
   pub near : levelAt t q ≤ q
 
-pub record Descending (D : ℕ) (t : List ℕ) (before work : List ℤ) (p : ℕ) : Type 0 where
+pub record Descending (D : Distance) (t : List ℕ) (before work : List ℤ) (p : ℕ) : Type 0 where
   pub accepted : tableNumber t ≡ 0
-  pub small : D ≤ 1024
+  pub small : (a b : ℕ) → D a b ≤ 1536
   pub within : p ≤ nodes t
   pub fits : 16 * nodes t ≤ length work
   pub size : length work ≡ length before
@@ -35,7 +37,7 @@ pub record Descending (D : ℕ) (t : List ℕ) (before work : List ℤ) (p : ℕ
   pub others : (q : ℕ) → p ≤ q → q < nodes t → FromParent D t work q
 
 -- another slice with the same offset and the same parent
-same-parent : {D : ℕ} {t : List ℕ} {work work′ : List ℤ} {q : ℕ} → get work′ PARENT q ≡ get work PARENT q → get work′ PLACE q ≡ get work PLACE q
+same-parent : {D : Distance} {t : List ℕ} {work work′ : List ℤ} {q : ℕ} → get work′ PARENT q ≡ get work PARENT q → get work′ PLACE q ≡ get work PLACE q
     → FromParent D t work q → FromParent D t work′ q
 same-parent {D} {t} e f F =
     record {
@@ -47,7 +49,7 @@ same-parent {D} {t} e f F =
     }
 
 -- position 0 is the root, on level 0, at place 0
-module _ {D : ℕ} {t : List ℕ} {work work′ : List ℤ} (accepted : tableNumber t ≡ 0) (small : D ≤ 1024) (R : Ready D t work)
+module _ {D : Distance} {t : List ℕ} {work work′ : List ℤ} (accepted : tableNumber t ≡ 0) (small : (a b : ℕ) → D a b ≤ 1536) (R : Ready D t work)
     (e : work′ ≡ put work LEVEL 0 (pos 0)) where
   some : 0 < nodes t
   some = accepted-numbers t accepted .some
@@ -80,7 +82,7 @@ module _ {D : ℕ} {t : List ℕ} {work work′ : List ℤ} (accepted : tableNum
   pub rest-start : drop (16 * nodes t) work′ ≡ drop (16 * nodes t) work
   rest-start = rw e (put-rest work LEVEL 0 (pos 0) (omega arith) (nodes t) some)
 
-module _ {D : ℕ} {t : List ℕ} {before work : List ℤ} {p : ℕ} (S : Descending D t before work p) where
+module _ {D : Distance} {t : List ℕ} {before work : List ℤ} {p : ℕ} (S : Descending D t before work p) where
   -- what has been met can be read
   pub seen : (q : ℕ) → q < p → Seen work q (numberAt t q) (levelAt t q)
   seen q h =
@@ -124,7 +126,7 @@ module _ {D : ℕ} {t : List ℕ} {before work : List ℤ} {p : ℕ} (S : Descen
           before = from .before;
           named = from .named;
           place-fits = subst (λ (z : ℤ). mag z < 2 ^ 31) (sym place-here)
-              (omega (arith, small-place D t (S .accepted) (S .small) (numberAt t p) (node-below t (S .accepted) p h)));
+              (omega (arith, small-place D t (S .accepted) 1536 (λ a b h k. S .small a b) (le-refl 1536) (numberAt t p) (node-below t (S .accepted) p h)));
           level-fits = subst (λ (z : ℤ). mag z < 2 ^ 31) (sym level-here) (omega (arith, near-here));
         }
 

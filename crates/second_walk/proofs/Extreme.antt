@@ -3,10 +3,12 @@ use mathlib.Core.Path.{_≡_, refl, subst}
 use mathlib.Core.Bool.{Bool, true, false, cond}
 use mathlib.Core.List.{List}
 use Prim.Native.Nat.{ℕ, _+_, _^_, _≤_, _<_}
+use native.Mathlib.Nat.{le-refl}
 use native.Mathlib.Omega.{arith}
 use borrow.Author.Count.{below-more}
 use lib.IntN.{ℤ, pos}
 use lib.Signed.{leZ, mag}
+use Rattle.distance.specs.Needed.{Distance}
 use Rattle.tree.specs.Table.{nodes}
 use Rattle.tree.specs.WellFormed.{tableNumber}
 use Rattle.tree.proofs.Stands.{accepted-numbers}
@@ -20,15 +22,15 @@ abbrev pub AtLeast : ℤ → ℤ → Type 0
 AtLeast x y = AtMost y x
 
 -- z is the place of a node
-abbrev Place : ℕ → List ℕ → ℤ → Type 0
+abbrev Place : Distance → List ℕ → ℤ → Type 0
 Place D t z = (v : ℕ) × (v < nodes t) × (place D t v ≡ z)
 
 -- z is a place, and goes before the places of the first p positions
-pub record Extreme (Before : ℤ → ℤ → Type 0) (D : ℕ) (t : List ℕ) (p : ℕ) (z : ℤ) : Type 0 where
+pub record Extreme (Before : ℤ → ℤ → Type 0) (D : Distance) (t : List ℕ) (p : ℕ) (z : ℤ) : Type 0 where
   pub met : Place D t z
   pub bounds : (q : ℕ) → q < p → Before z (placeAt D t q)
 
-module _ {Before : ℤ → ℤ → Type 0} {D : ℕ} {t : List ℕ} (accepted : tableNumber t ≡ 0) where
+module _ {Before : ℤ → ℤ → Type 0} {D : Distance} {t : List ℕ} (accepted : tableNumber t ≡ 0) where
   -- the root stands at place 0
   pub extreme-start : Before (pos 0) (pos 0) → Extreme Before D t 1 (pos 0)
   extreme-start same =
@@ -43,7 +45,7 @@ module _ {Before : ℤ → ℤ → Type 0} {D : ℕ} {t : List ℕ} (accepted : 
       equal z w (subst (Before z) (m .2) (each-number t accepted (λ v. Before z (place D t v)) (λ q k. E .bounds q (omega arith)) (m .0) (m .1)))
       (subst (Before w) (E .met .2) (b (E .met .0) (E .met .1)))
 
-module _ {D : ℕ} {t : List ℕ} (accepted : tableNumber t ≡ 0) {p : ℕ} {z : ℤ} where
+module _ {D : Distance} {t : List ℕ} (accepted : tableNumber t ≡ 0) {p : ℕ} {z : ℤ} where
   -- of the extreme so far and the next place, the one that goes before the other
   pub least-next : {z′ : ℤ} → Extreme AtMost D t p z → p < nodes t → z′ ≡ lesser z (placeAt D t p) → Extreme AtMost D t (p + 1) z′
   least-next E h e = rw e (go (leZ z (placeAt D t p)) refl)
@@ -74,9 +76,9 @@ module _ {D : ℕ} {t : List ℕ} (accepted : tableNumber t ≡ 0) {p : ℕ} {z 
   greatest-end E h = end accepted (λ x y a b. parts-eq x y (omega arith)) E h (greatest-met D t accepted) (λ v k. at-most _ _ (greatest-bounds D t accepted v k))
 
 -- the extremes are small
-module _ (D : ℕ) (t : List ℕ) (accepted : tableNumber t ≡ 0) (small : D ≤ 1024) where
+module _ (D : Distance) (t : List ℕ) (accepted : tableNumber t ≡ 0) (small : (a b : ℕ) → a < nodes t → b < nodes t → D a b ≤ 1536) where
   met-small : {z : ℤ} → Place D t z → mag z < 2 ^ 31
-  met-small m = subst (λ (x : ℤ). mag x < 2 ^ 31) (m .2) (omega (arith, small-place D t accepted small (m .0) (m .1)))
+  met-small m = subst (λ (x : ℤ). mag x < 2 ^ 31) (m .2) (omega (arith, small-place D t accepted 1536 small (le-refl 1536) (m .0) (m .1)))
 
   pub least-small : mag (leastOf (placesOf D t)) < 2 ^ 31
   least-small = met-small (least-met D t accepted)

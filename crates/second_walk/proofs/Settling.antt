@@ -6,6 +6,7 @@ use native.Mathlib.Numerals.{add-one}
 use native.Mathlib.Omega.{arith}
 use lib.IntN.{ℤ, pos}
 use lib.ListN.{length, set}
+use Rattle.distance.specs.Needed.{Distance}
 use Rattle.tree.specs.Table.{nodes}
 use Rattle.tree.specs.Levels
 use Rattle.tree.specs.WellFormed.{tableNumber}
@@ -25,7 +26,7 @@ use Rattle.second_walk.proofs.Recorded.{Recorded, recorded-start, recor
 use Rattle.second_walk.proofs.Descending.{Descending, descending-start, rest-start, seen, descending-next}
 
 -- the slices before and now, the extremes so far, and how many pairs and positions have been met
-pub record Settling (t : List ℕ) (D : ℕ) (rs₀ : List ℕ) (ws₀ ps : List ℤ) (ls rs : List ℕ) (ws : List ℤ) (low high : ℤ) (pairs p : ℕ) : Type 0 where
+pub record Settling (t : List ℕ) (D : Distance) (rs₀ : List ℕ) (ws₀ ps : List ℤ) (ls rs : List ℕ) (ws : List ℤ) (low high : ℤ) (pairs p : ℕ) : Type 0 where
   pub some : 1 ≤ p
   pub work : Descending D t ws₀ ws p
   pub places : ByNumber t (Result.place D t) (pos 0) p ps
@@ -34,7 +35,7 @@ pub record Settling (t : List ℕ) (D : ℕ) (rs₀ : List ℕ) (ws₀ ps : List
   pub greatest : Extreme AtLeast D t p high
   pub measured : Recorded t rs₀ p pairs rs
 
-pub settle-start : {t : List ℕ} {D : ℕ} {ps : List ℤ} {ls rs : List ℕ} {ws ws′ : List ℤ} → tableNumber t ≡ 0 → D ≤ 1024 → Lengths t ps ls rs → Ready D t ws
+pub settle-start : {t : List ℕ} {D : Distance} {ps : List ℤ} {ls rs : List ℕ} {ws ws′ : List ℤ} → tableNumber t ≡ 0 → ((a b : ℕ) → D a b ≤ 1536) → Lengths t ps ls rs → Ready D t ws
     → ws′ ≡ put ws LEVEL 0 (pos 0) → Settling t D rs ws′ (set ps 0 (pos 0)) (set ls 0 0) rs ws′ (pos 0) (pos 0) 0 1
 settle-start {t} {D} {ps} {ls} {rs} accepted small M R e =
     record {
@@ -47,7 +48,7 @@ settle-start {t} {D} {ps} {ls} {rs} accepted small M R e =
       measured = recorded-start t rs (M .measured);
     }
 
-module _ {t : List ℕ} {D : ℕ} {rs₀ : List ℕ} {ws₀ ps : List ℤ} {ls rs : List ℕ} {ws : List ℤ} {low high : ℤ} {pairs p : ℕ}
+module _ {t : List ℕ} {D : Distance} {rs₀ : List ℕ} {ws₀ ps : List ℤ} {ls rs : List ℕ} {ws : List ℤ} {low high : ℤ} {pairs p : ℕ}
     (S : Settling t D rs₀ ws₀ ps ls rs ws low high pairs p) where
   abbrev accepted : tableNumber t ≡ 0
   accepted = S .work .accepted

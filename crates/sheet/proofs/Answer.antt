@@ -16,7 +16,7 @@ use Rattle.sheet.specs.Block.{blockBytes, blockCount, blockAt, sound, in
 use Rattle.sheet.specs.Layout.{mostNodes, mostSeparation, blocksFor, laidOut}
 use Rattle.sheet.specs.Steps.{RowsRead}
 use Rattle.sheet.proofs.Below.{every-at}
-use Rattle.sheet.specs.Read.{nodesOf, separationOf, someBlockFails, lengthWrong, within, roomWrong, fileConditions, conditions, fileNumber, refusal, SheetRead}
+use Rattle.sheet.specs.Read.{nodesOf, separationOf, someBlockFails, lengthWrong, within, roomWrong, fileConditions, conditions, fileNumber, refusal, numberRead, SheetRead}
 
 pub long-enough : (bytes : ℕ) → lengthWrong bytes ≡ false → blockBytes * 2 ≤ bytes
 long-enough bytes h =
@@ -64,61 +64,69 @@ readable file e =
     }
 
 -- with slices for 1,024 nodes, the file decides
-pub file-decides : (file : List ℕ) (tableLength tapesLength : ℕ) → 2 * mostNodes ≤ tableLength → 2 * mostNodes ≤ tapesLength
-    → refusal file tableLength tapesLength ≡ fileNumber file
+pub file-decides : (file : List ℕ) (tableLength tapesLength halfWidthsLength : ℕ) → 2 * mostNodes ≤ tableLength → 2 * mostNodes ≤ tapesLength
+    → mostNodes ≤ halfWidthsLength
+    → refusal file tableLength tapesLength halfWidthsLength ≡ fileNumber file
 unfolding refusal fileNumber
-file-decides file tableLength tapesLength table tapes = go (fileNumber file) refl
+file-decides file tableLength tapesLength halfWidthsLength table tapes halfWidths = go (fileNumber file) refl
   where
     room : List Condition
-    room = 7 ⇐ roomWrong (nodesOf file) tableLength tapesLength ∷ []
+    room = 7 ⇐ roomWrong (nodesOf file) tableLength tapesLength halfWidthsLength ∷ []
 
     go : (k : ℕ) → fileNumber file ≡ k → first (fileConditions file ++ room) ≡ first (fileConditions file)
     go zero e =
         let most = readable file e .nodes-most in
         first-passed (fileConditions file) room (first-none (fileConditions file) (omega arith) e)
         ∙ ap (λ (b : Bool). cond b 7 0)
-        (or-false (le-ltb tableLength (2 * nodesOf file) (omega arith)) (le-ltb tapesLength (2 * nodesOf file) (omega arith)))
+        (or-false (le-ltb tableLength (2 * nodesOf file) (omega arith))
+        (or-false (le-ltb tapesLength (2 * nodesOf file) (omega arith)) (le-ltb halfWidthsLength (nodesOf file) (omega arith))))
         ∙ sym e
     go (suc k) e = first-refused (fileConditions file) room (λ z. omega arith)
 
 -- what is known of an accepted file and of the slices
-pub record Accepted (file : List ℕ) (tableLength tapesLength : ℕ) : Type 0 where
+pub record Accepted (file : List ℕ) (tableLength tapesLength halfWidthsLength : ℕ) : Type 0 where
   pub file-sound : Readable file
   pub table-room : 2 * nodesOf file ≤ tableLength
   pub tapes-room : 2 * nodesOf file ≤ tapesLength
+  pub half-widths-room : nodesOf file ≤ halfWidthsLength
 
-pub accepted : (file : List ℕ) (tableLength tapesLength : ℕ) → refusal file tableLength tapesLength ≡ 0 → Accepted file tableLength tapesLength
+pub accepted : (file : List ℕ) (tableLength tapesLength halfWidthsLength : ℕ) → refusal file tableLength tapesLength halfWidthsLength ≡ 0
+    → Accepted file tableLength tapesLength halfWidthsLength
 unfolding refusal fileNumber
-accepted file t s e =
-    let h = first-none (conditions file t s) (omega arith) e in
+accepted file t s w e =
+    let h = first-none (conditions file t s w) (omega arith) e in
     let room = h .1 .1 .1 .1 .0 in
+    let others = or-false-right (ltb t (2 * nodesOf file)) _ room in
     record {
       file-sound = readable file (none-first (fileConditions file) (h .0, (h .1 .0, (h .1 .1 .0, (h .1 .1 .1 .0, tt)))));
       table-room = ltb-false t (2 * nodesOf file) (or-false-left (ltb t (2 * nodesOf file)) _ room);
-      tapes-room = ltb-false s (2 * nodesOf file) (or-false-right (ltb t (2 * nodesOf file)) _ room);
+      tapes-room = ltb-false s (2 * nodesOf file) (or-false-left (ltb s (2 * nodesOf file)) _ others);
+      half-widths-room = ltb-false w (nodesOf file) (or-false-right (ltb s (2 * nodesOf file)) _ others);
     }
 
-module _ (file table tapes : List ℕ) where
-  pub refused-read : (number : ℕ) → (number ≡ 0 → ⊥) → number ≡ refusal file (length table) (length tapes)
-      → SheetRead file table tapes (record { number = number; nodes = 0; separation = 0 }) table tapes
+module _ (file table tapes halfWidths : List ℕ) where
+  pub refused-read : (number : ℕ) → (number ≡ 0 → ⊥) → number ≡ numberRead file table tapes halfWidths
+      → SheetRead file table tapes halfWidths (record { number = number; nodes = 0; separation = 0 }) table tapes halfWidths
   refused-read number h e =
-      let refused : refusal file (length table) (length tapes) ≡ 0 → ⊥ = rw (← e) h in
+      let refused : numberRead file table tapes halfWidths ≡ 0 → ⊥ = rw (← e) h in
       record {
         number = e;
         nodes = rw granted-refused;
         separation = rw granted-refused;
         table-after = rw after-refused;
         tapes-after = rw after-refused;
+        half-widths-after = rw after-refused;
       }
 
-  pub accepted-read : (nodes separation : ℕ) (table′ tapes′ : List ℕ) → refusal file (length table) (length tapes) ≡ 0 → nodes ≡ nodesOf file
+  pub accepted-read : (nodes separation : ℕ) (table′ tapes′ halfWidths′ : List ℕ) → numberRead file table tapes halfWidths ≡ 0 → nodes ≡ nodesOf file
       → separation ≡ separationOf file
-      → RowsRead file nodes table tapes table′ tapes′
-      → SheetRead file table tapes (record { number = 0; nodes = nodes; separation = separation }) table′ tapes′
-  accepted-read nodes separation table′ tapes′ e isNodes isSeparation rows = record {
+      → RowsRead file nodes table tapes halfWidths table′ tapes′ halfWidths′
+      → SheetRead file table tapes halfWidths (record { number = 0; nodes = nodes; separation = separation }) table′ tapes′ halfWidths′
+  accepted-read nodes separation table′ tapes′ halfWidths′ e isNodes isSeparation rows = record {
     number = sym e;
     nodes = rw e isNodes;
     separation = rw e isSeparation;
     table-after = rw (after-accepted, ← isNodes) (rows .table-after);
     tapes-after = rw (after-accepted, ← isNodes) (rows .tapes-after);
+    half-widths-after = rw (after-accepted, ← isNodes) (rows .half-widths-after);
   }

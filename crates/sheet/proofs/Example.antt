@@ -1,5 +1,5 @@
--- The paper's example: the root with tape 500 and its leaves 501 and 502, D = 3. Its blocks with their check words 65,530 and
--- 64,030, and what reading its file gives, all by computation. Assumes nothing.
+-- The paper's example: the root with tape 500 and its leaves 501 and 502, D = 3, half-widths 0. Its blocks with their check words
+-- 65,529 and 64,030, and what reading its file gives, all by computation. Assumes nothing.
 use mathlib.Core.Path.{_≡_, refl}
 use Prim.Native.Nat.{ℕ, _*_}
 use mathlib.Core.List.{List, [], _∷_, _++_}
@@ -18,26 +18,30 @@ links = 1 ∷ 65535 ∷ 65535 ∷ 2 ∷ 65535 ∷ 65535 ∷ []
 abbrev pub tapes : List ℕ
 tapes = 500 ∷ 0 ∷ 501 ∷ 0 ∷ 502 ∷ 0 ∷ []
 
-pub header-words : blockOf 3 3 links tapes 0 ≡ 0 ∷ 0 ∷ 3 ∷ 3 ∷ replicate 251 0 ++ 65530 ∷ []
+-- the half-widths
+abbrev pub halfWidths : List ℕ
+halfWidths = 0 ∷ 0 ∷ 0 ∷ []
+
+pub header-words : blockOf 3 3 links tapes halfWidths 0 ≡ 0 ∷ 1 ∷ 3 ∷ 3 ∷ replicate 251 0 ++ 65529 ∷ []
 unfolding total closing countWord content padded closed blockOf
 header-words = refl
 
-pub rows-words : blockOf 3 3 links tapes 1 ≡
-    1 ∷ 3 ∷ 1 ∷ 65535 ∷ 500 ∷ 0 ∷ 65535 ∷ 2 ∷ 501 ∷ 0 ∷ 65535 ∷ 65535 ∷ 502 ∷ 0 ∷ replicate 241 0 ++ 64030 ∷ []
+pub rows-words : blockOf 3 3 links tapes halfWidths 1 ≡
+    1 ∷ 3 ∷ 1 ∷ 65535 ∷ 500 ∷ 0 ∷ 0 ∷ 65535 ∷ 2 ∷ 501 ∷ 0 ∷ 0 ∷ 65535 ∷ 65535 ∷ 502 ∷ 0 ∷ 0 ∷ replicate 238 0 ++ 64030 ∷ []
 unfolding total joined closing countWord row content padded closed blockOf
 rows-words = refl
 
-pub file-length : length (fileOf 3 3 links tapes) ≡ 1024
+pub file-length : length (fileOf 3 3 links tapes halfWidths) ≡ 1024
 unfolding total joined bytesOf closing countWord row content padded closed blockOf fileOf
 file-length = refl
 
-pub example-read : ReadBack 3 3 links tapes 6 6
+pub example-read : ReadBack 3 3 links tapes halfWidths 6 6 3
 unfolding total every joined wordAt bytesOf blockAt wordSum sound closing inPlace countWord usedWords fixedHold row content padded closed blockOf fileOf refusal
-example-read = record { number = refl; nodes = refl; separation-back = refl; table-back = refl; tapes-back = refl }
+example-read = record { number = refl; nodes = refl; separation-back = refl; table-back = refl; tapes-back = refl; half-widths-back = refl }
 
--- 63 nodes take two blocks, 64 take three, 1,024 take eighteen; and the lengths that condition 9 names
-pub block-counts : (blocksFor 63 ≡ 2) × (blocksFor 64 ≡ 3) × (blocksFor 1024 ≡ 18)
+-- 50 nodes take two blocks, 51 take three, 1,024 take twenty-two; and the length that condition 9 names
+pub block-counts : (blocksFor 50 ≡ 2) × (blocksFor 51 ≡ 3) × (blocksFor 1024 ≡ 22)
 block-counts = (refl, refl, refl)
 
-pub greatest-length : blockBytes * blocksFor mostNodes ≡ 9216
+pub greatest-length : blockBytes * blocksFor mostNodes ≡ 11264
 greatest-length = refl

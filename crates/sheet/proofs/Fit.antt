@@ -40,17 +40,18 @@ bytes-below (w ∷ ws) h zero = omega arith
 bytes-below (w ∷ ws) h (suc zero) = omega (arith, h 0)
 bytes-below (w ∷ ws) h (suc (suc i)) = bytes-below ws (λ k. h (suc k)) i
 
-module _ (n separation : ℕ) (table tapes : List ℕ) (held : Contents n separation table tapes) (table-words : EachBelow wordLimit table)
-    (tapes-words : EachBelow wordLimit tapes) where
-  row-below : (r : ℕ) → EachBelow wordLimit (row table tapes r)
+module _ (n separation : ℕ) (table tapes halfWidths : List ℕ) (held : Contents n separation table tapes halfWidths) (table-words : EachBelow wordLimit table)
+    (tapes-words : EachBelow wordLimit tapes) (half-width-words : EachBelow wordLimit halfWidths) where
+  row-below : (r : ℕ) → EachBelow wordLimit (row table tapes halfWidths r)
   unfolding row
   row-below r zero = table-words (2 * r)
   row-below r (suc zero) = table-words (2 * r + 1)
   row-below r (suc (suc zero)) = tapes-words (2 * r)
   row-below r (suc (suc (suc zero))) = tapes-words (2 * r + 1)
-  row-below r (suc (suc (suc (suc i)))) = omega arith
+  row-below r (suc (suc (suc (suc zero)))) = half-width-words r
+  row-below r (suc (suc (suc (suc (suc i))))) = omega arith
 
-  content-below : (b : ℕ) → EachBelow wordLimit (content n separation table tapes b)
+  content-below : (b : ℕ) → EachBelow wordLimit (content n separation table tapes halfWidths b)
   unfolding content
   content-below zero zero = omega arith
   content-below zero (suc zero) = omega arith
@@ -62,21 +63,21 @@ module _ (n separation : ℕ) (table tapes : List ℕ) (held : Contents n separa
   count-below zero = omega arith
   count-below (suc b) = omega arith
 
-  body-below : (b : ℕ) → b < blocksFor n → EachBelow wordLimit (b ∷ countWord n b ∷ content n separation table tapes b)
+  body-below : (b : ℕ) → b < blocksFor n → EachBelow wordLimit (b ∷ countWord n b ∷ content n separation table tapes halfWidths b)
   body-below b l zero = omega arith
   body-below b l (suc zero) = count-below b
   body-below b l (suc (suc i)) = content-below b i
 
-  block-below : (b : ℕ) → b < blocksFor n → EachBelow wordLimit (blockOf n separation table tapes b)
+  block-below : (b : ℕ) → b < blocksFor n → EachBelow wordLimit (blockOf n separation table tapes halfWidths b)
   unfolding blockOf closed padded closing
   block-below b l =
       let some : 0 < wordLimit = omega arith in
-      let body : List ℕ = b ∷ countWord n b ∷ content n separation table tapes b in
+      let body : List ℕ = b ∷ countWord n b ∷ content n separation table tapes halfWidths b in
       let zeros : List ℕ = replicate (closingPlace - length body) 0 in
       append-below wordLimit some (body ++ zeros) (closing (body ++ zeros) ∷ [])
       (append-below wordLimit some body zeros (body-below b l) (zeros-below wordLimit some (closingPlace - length body)))
       (one-below wordLimit some (closing (body ++ zeros)) [] (omega arith) (none-below wordLimit some))
 
-  pub file-bytes : EachBelow 256 (fileOf n separation table tapes)
+  pub file-bytes : EachBelow 256 (fileOf n separation table tapes halfWidths)
   unfolding fileOf
   file-bytes = joined-below 256 (omega arith) (blocksFor n) _ (λ b l. bytes-below _ (block-below b l))

@@ -45,7 +45,7 @@ module _ (n : ℕ) (block : List ℕ) where
   unfolding countWord usedWords
   laid-header = refl
 
-  pub laid-rows : (b : ℕ) → (b ≡ 0 → ⊥) → fixedHold (rowsIn n (b - 1)) (rowWord (rowsIn n (b - 1))) block ≡ laidOut n b block
+  pub laid-rows : (b rows : ℕ) → 1 ≤ b → rows ≡ rowsIn n (b - 1) → fixedHold rows (rowWord rows) block ≡ laidOut n b block
   unfolding countWord usedWords
-  laid-rows zero h = absurd (h refl)
-  laid-rows (suc b) h = rw sub-one
+  laid-rows zero rows h isRows = absurd (omega arith)
+  laid-rows (suc b) rows h isRows = rw (isRows, sub-one)

@@ -4,7 +4,7 @@ use Prim.Native.Nat.{ℕ, _+_, _-_, _*_, _≤_, _<_}
 use native.Mathlib.Omega.{arith}
 use mathlib.Core.Bool.{Bool, true, false, cond}
 use lib.Dec.{ltb}
-use borrow.Author.Tests.{ltb-true, ltb-false}
+use borrow.Author.Tests.{ltb-true, ltb-false, le-ltb}
 use Rattle.sheet.specs.Layout.{firstWord, blockRows, rowWords, rowWord, nodeBlock, nodeWord}
 
 -- row i of block b + 1 is that of node blockRows * b + i
@@ -20,3 +20,7 @@ row-after r true h =
 row-after r false h =
     let last : rowWord (blockRows - 1) ≤ nodeWord r = ltb-false _ _ h in
     (omega arith, omega arith)
+
+-- so after a block's last row
+pub block-after : (r : ℕ) → rowWord (blockRows - 1) ≤ nodeWord r → nodeWord (r + 1) ≡ firstWord
+block-after r last = row-after r false (le-ltb _ _ last) .1

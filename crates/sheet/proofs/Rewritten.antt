@@ -10,7 +10,7 @@ use borrow.Author.Tests.{eqb-true}
 use Rattle.sheet.specs.Below.{joined}
 use Rattle.sheet.specs.Block.{blockWords, blockBytes, blockCount, wordLimit, closingPlace, wordAt, bytesOf, blockAt, sound, inPlace}
 use Rattle.sheet.specs.Layout.{blockRows, rowWords, blocksFor, nodeBlock, nodeWord, rowsIn, countWord, usedWords}
-use Rattle.sheet.specs.Read.{nodesOf, separationOf, nodePair, tableOf, tapesOf, refusal}
+use Rattle.sheet.specs.Read.{nodesOf, separationOf, nodePair, nodeSingle, tableOf, tapesOf, halfWidthsOf, refusal}
 use Rattle.sheet.specs.File.{row, content, blockOf, fileOf, EachBelow}
 use Rattle.sheet.proofs.Answer.{Accepted, accepted}
 use Rattle.sheet.proofs.Below.{split, joined-cong, getD-joined, parts-joined}
@@ -31,14 +31,21 @@ module _ (file : List ℕ) (n : ℕ) where
       let word : nodeWord r + j + 1 ≡ nodeWord r + (j + 1) = omega arith in
       getD-joined 2 (nodePair file j) (λ k. refl) n r 1 l (omega arith) ∙ ap (wordAt (blockAt file (nodeBlock r))) word
 
+  single-word : (j r : ℕ) → r < n → getD (joined n (nodeSingle file j)) r 0 ≡ wordAt (blockAt file (nodeBlock r)) (nodeWord r + j)
+  single-word j r l =
+      let place : r ≡ 1 * r + 0 = omega arith in
+      ap (λ (k : ℕ). getD (joined n (nodeSingle file j)) k 0) place
+      ∙ getD-joined 1 (nodeSingle file j) (λ k. refl) n r 0 l (omega arith)
+
   row-word : (r j : ℕ) → r < n → j < rowWords
-      → getD (row (tableOf file n) (tapesOf file n) r) j 0 ≡ wordAt (blockAt file (nodeBlock r)) (nodeWord r + j)
+      → getD (row (tableOf file n) (tapesOf file n) (halfWidthsOf file n) r) j 0 ≡ wordAt (blockAt file (nodeBlock r)) (nodeWord r + j)
   unfolding row
   row-word r zero l m = first-word 0 r l
   row-word r (suc zero) l m = second-word 0 r l
   row-word r (suc (suc zero)) l m = first-word 2 r l
   row-word r (suc (suc (suc zero))) l m = second-word 2 r l
-  row-word r (suc (suc (suc (suc j)))) l m = absurd (omega arith)
+  row-word r (suc (suc (suc (suc zero)))) l m = single-word 4 r l
+  row-word r (suc (suc (suc (suc (suc j))))) l m = absurd (omega arith)
 
 -- the bytes of a block are bytes of the file
 block-below : (file : List ℕ) (b : ℕ) → EachBelow 256 file → EachBelow 256 (blockAt file b)
@@ -54,13 +61,25 @@ block-below file b fits i =
     let same = getD-take blockBytes (drop (blockBytes * b) file) i 0 l ∙ getD-drop (blockBytes * b) file i 0 in
     omega (arith, fits (blockBytes * b + i)))
 
-module _ (file : List ℕ) (tableLength tapesLength : ℕ) (held : Accepted file tableLength tapesLength) where
+module _ (file : List ℕ) (tableLength tapesLength halfWidthsLength : ℕ) (held : Accepted file tableLength tapesLength halfWidthsLength) where
   abbrev n : ℕ
   n = nodesOf file
 
+  abbrev D : ℕ
+  D = separationOf file
+
+  abbrev table : List ℕ
+  table = tableOf file n
+
+  abbrev tapes : List ℕ
+  tapes = tapesOf file n
+
+  abbrev halfWidths : List ℕ
+  halfWidths = halfWidthsOf file n
+
   -- the used words of block b, from what was read
   abbrev body : ℕ → List ℕ
-  body b = b ∷ countWord n b ∷ content n (separationOf file) (tableOf file n) (tapesOf file n) b
+  body b = b ∷ countWord n b ∷ content n D table tapes halfWidths b
 
   used-word : (b : ℕ) → b < blocksFor n → (i : ℕ) → suc (suc i) < usedWords n b → getD (body b) (suc (suc i)) 0 ≡ wordAt (blockAt file b) (suc (suc i))
   unfolding content usedWords row
@@ -75,8 +94,8 @@ module _ (file : List ℕ) (tableLength tapesLength : ℕ) (held : Accepted file
       let node : blockRows * b + q < n = omega arith in
       let block : nodeBlock (blockRows * b + q) ≡ suc b = omega arith in
       let word : nodeWord (blockRows * b + q) + j ≡ suc (suc i) = omega arith in
-      ap (λ (k : ℕ). getD (content n (separationOf file) (tableOf file n) (tapesOf file n) (suc b)) k 0) whole
-      ∙ getD-joined rowWords (λ k. row (tableOf file n) (tapesOf file n) (blockRows * b + k)) (λ k. refl) (rowsIn n b) q j few (omega arith)
+      ap (λ (k : ℕ). getD (content n D table tapes halfWidths (suc b)) k 0) whole
+      ∙ getD-joined rowWords (λ k. row table tapes halfWidths (blockRows * b + k)) (λ k. refl) (rowsIn n b) q j few (omega arith)
       ∙ row-word file n (blockRows * b + q) j node (omega arith)
       ∙ ap₂ (λ (c k : ℕ). wordAt (blockAt file c) k) block word
 
@@ -91,34 +110,34 @@ module _ (file : List ℕ) (tableLength tapesLength : ℕ) (held : Accepted file
     body-word (suc (suc i)) m =
         split (usedWords n b) (suc (suc i))
         (λ h.
-        List·getD-eq-default (body b) 0 {n = suc (suc i)} (omega (arith, length-body n (separationOf file) (tableOf file n) (tapesOf file n) b))
+        List·getD-eq-default (body b) 0 {n = suc (suc i)} (omega (arith, length-body n D table tapes halfWidths b))
         ∙ sym (unused-held (countWord n b) (usedWords n b) (blockAt file b)
-        (used-least n (separationOf file) (tableOf file n) (tapesOf file n) b) (suc (suc i)) h m (held .file-sound .layout b there)))
+        (used-least n D table tapes halfWidths b) (suc (suc i)) h m (held .file-sound .layout b there)))
         (λ h. used-word b l i h)
 
     closing-fits : wordAt (blockAt file b) closingPlace < wordLimit
     unfolding wordAt
     closing-fits = omega (arith, block-below file b fits (2 * closingPlace), block-below file b fits (2 * closingPlace + 1))
 
-    block-word : (k : ℕ) → k < blockWords → getD (blockOf n (separationOf file) (tableOf file n) (tapesOf file n) b) k 0 ≡ wordAt (blockAt file b) k
+    block-word : (k : ℕ) → k < blockWords → getD (blockOf n D table tapes halfWidths b) k 0 ≡ wordAt (blockAt file b) k
     unfolding blockOf sound
     block-word k m =
-        let used = body-fits n (separationOf file) (tableOf file n) (tapesOf file n) b in
+        let used = body-fits n D table tapes halfWidths b in
         split closingPlace k
         (λ h.
         let last : k ≡ closingPlace = omega arith in
         rw last (closing-unique (body b) used (blockAt file b) body-word (eqb-true _ _ (held .file-sound .checks b there)) closing-fits))
         (λ h. getD-closed (body b) used k h ∙ body-word k h)
 
-    block-again : bytesOf (blockOf n (separationOf file) (tableOf file n) (tapesOf file n) b) ≡ blockAt file b
+    block-again : bytesOf (blockOf n D table tapes halfWidths b) ≡ blockAt file b
     unfolding blockOf
     block-again =
-        let words : List ℕ = blockOf n (separationOf file) (tableOf file n) (tapesOf file n) b in
-        let size : length words ≡ blockWords = length-closed (body b) (body-fits n (separationOf file) (tableOf file n) (tapesOf file n) b) in
+        let words : List ℕ = blockOf n D table tapes halfWidths b in
+        let size : length words ≡ blockWords = length-closed (body b) (body-fits n D table tapes halfWidths b) in
         let whole : length (blockAt file b) ≡ blockBytes = length-block file b (omega arith) in
         bytes-words words (blockAt file b) (omega arith) (block-below file b fits) (λ k m. block-word k (lt-of-lt-of-le m (le-of-eq size)))
 
-  rewritten : EachBelow 256 file → fileOf n (separationOf file) (tableOf file n) (tapesOf file n) ≡ file
+  rewritten : EachBelow 256 file → fileOf n D table tapes halfWidths ≡ file
   unfolding fileOf blockAt
   rewritten fits =
       joined-cong (blocksFor n) _ (blockAt file) (λ b l. block-again fits b l)
@@ -126,6 +145,7 @@ module _ (file : List ℕ) (tableLength tapesLength : ℕ) (held : Accepted file
       ∙ take-all (blockBytes * blocksFor n) file (le-of-eq (held .file-sound .blocks))
 
 -- what is read from an accepted file, written again, is that file
-pub read-and-written : (file : List ℕ) (tableLength tapesLength : ℕ) → EachBelow 256 file → refusal file tableLength tapesLength ≡ 0
-    → fileOf (nodesOf file) (separationOf file) (tableOf file (nodesOf file)) (tapesOf file (nodesOf file)) ≡ file
-read-and-written file t s fits e = rewritten file t s (accepted file t s e) fits
+pub read-and-written : (file : List ℕ) (tableLength tapesLength halfWidthsLength : ℕ) → EachBelow 256 file
+    → refusal file tableLength tapesLength halfWidthsLength ≡ 0
+    → fileOf (nodesOf file) (separationOf file) (tableOf file (nodesOf file)) (tapesOf file (nodesOf file)) (halfWidthsOf file (nodesOf file)) ≡ file
+read-and-written file t s w fits e = rewritten file t s w (accepted file t s w e) fits

@@ -10,31 +10,31 @@ use Rattle.refusal.specs.After.{overwrite}
 use Rattle.refusal.proofs.After.{after-accepted}
 use Rattle.sheet.specs.Block.{blockBytes, blockCount, blockAt, sound, inPlace}
 use Rattle.sheet.specs.Layout.{mostNodes, mostSeparation, blocksFor, laidOut}
-use Rattle.sheet.specs.Read.{nodesOf, separationOf, tableOf, tapesOf, someBlockFails, lengthWrong, checkWrong, placeWrong, layoutWrong, roomWrong, refusal, SheetRead}
+use Rattle.sheet.specs.Read.{nodesOf, separationOf, tableOf, tapesOf, halfWidthsOf, someBlockFails, lengthWrong, checkWrong, placeWrong, layoutWrong, roomWrong, refusal, SheetRead}
 use Rattle.sheet.specs.File.{content, fileOf, Contents, ReadBack}
 use Rattle.sheet.specs.declared.Sheet.{Sheet}
 use Rattle.sheet.proofs.Below.{every-holds, joined-cong}
-use Rattle.sheet.proofs.Words.{pairs-joined}
-use Rattle.sheet.proofs.Written.{length-file, word-read, check-read, place-read, laid-read, links-read, tape-read}
+use Rattle.sheet.proofs.Words.{pairs-joined, singles-joined}
+use Rattle.sheet.proofs.Written.{length-file, word-read, check-read, place-read, laid-read, links-read, tape-read, half-width-read}
 
-module _ (n separation : ℕ) (table tapes : List ℕ) (held : Contents n separation table tapes) where
+module _ (n separation : ℕ) (table tapes halfWidths : List ℕ) (held : Contents n separation table tapes halfWidths) where
   abbrev file : List ℕ
-  file = fileOf n separation table tapes
+  file = fileOf n separation table tapes halfWidths
 
   count : blockCount file ≡ blocksFor n
-  count = omega (arith, length-file n separation table tapes)
+  count = omega (arith, length-file n separation table tapes halfWidths)
 
   nodes-back : nodesOf file ≡ n
   unfolding content
-  nodes-back = word-read n separation table tapes 0 (omega arith) 2 (omega arith)
+  nodes-back = word-read n separation table tapes halfWidths 0 (omega arith) 2 (omega arith)
 
   separation-back : separationOf file ≡ separation
   unfolding content
-  separation-back = word-read n separation table tapes 0 (omega arith) 3 (omega arith)
+  separation-back = word-read n separation table tapes halfWidths 0 (omega arith) 3 (omega arith)
 
   length-right : lengthWrong (length file) ≡ false
   length-right =
-      let size = length-file n separation table tapes in
+      let size = length-file n separation table tapes halfWidths in
       let multiple : length file % blockBytes ≡ 0 = omega arith in
       let least : blockBytes * 2 ≤ length file = omega arith in
       let most : length file ≤ blockBytes * blocksFor mostNodes = omega arith in
@@ -45,10 +45,10 @@ module _ (n separation : ℕ) (table tapes : List ℕ) (held : Contents n separa
   all-blocks test h = ap not (every-holds (blockCount file) (λ b. test b (blockAt file b)) (λ b l. h b (omega (arith, count))))
 
   check-right : checkWrong file ≡ false
-  check-right = all-blocks (λ b block. sound block) (check-read n separation table tapes)
+  check-right = all-blocks (λ b block. sound block) (check-read n separation table tapes halfWidths)
 
   place-right : placeWrong file ≡ false
-  place-right = all-blocks inPlace (place-read n separation table tapes)
+  place-right = all-blocks inPlace (place-read n separation table tapes halfWidths)
 
   layout-right : layoutWrong file ≡ false
   layout-right =
@@ -61,44 +61,53 @@ module _ (n separation : ℕ) (table tapes : List ℕ) (held : Contents n separa
         le-leb n mostNodes most,
         le-leb 1 separation (held .separation-least),
         le-leb separation mostSeparation (held .separation-most),
-        eq-eqb _ _ (length-file n separation table tapes),
+        eq-eqb _ _ (length-file n separation table tapes halfWidths),
       )
-      (all-blocks (laidOut n) (laid-read n separation table tapes))
+      (all-blocks (laidOut n) (laid-read n separation table tapes halfWidths))
 
   table-back : tableOf file n ≡ table
-  table-back = joined-cong n _ _ (links-read n separation table tapes) ∙ pairs-joined n table (held .table-size)
+  table-back = joined-cong n _ _ (links-read n separation table tapes halfWidths) ∙ pairs-joined n table (held .table-size)
 
   tapes-back : tapesOf file n ≡ tapes
-  tapes-back = joined-cong n _ _ (tape-read n separation table tapes) ∙ pairs-joined n tapes (held .tapes-size)
+  tapes-back = joined-cong n _ _ (tape-read n separation table tapes halfWidths) ∙ pairs-joined n tapes (held .tapes-size)
 
-  module _ (tableLength tapesLength : ℕ) (table-room : 2 * n ≤ tableLength) (tapes-room : 2 * n ≤ tapesLength) where
-    room-right : roomWrong (nodesOf file) tableLength tapesLength ≡ false
-    room-right = rw (nodes-back, le-ltb _ _ table-room, le-ltb _ _ tapes-room)
+  half-widths-back : halfWidthsOf file n ≡ halfWidths
+  half-widths-back = joined-cong n _ _ (half-width-read n separation table tapes halfWidths) ∙ singles-joined n halfWidths (held .half-widths-size)
 
-    accepted : refusal file tableLength tapesLength ≡ 0
+  module _ (tableLength tapesLength halfWidthsLength : ℕ) (table-room : 2 * n ≤ tableLength) (tapes-room : 2 * n ≤ tapesLength)
+      (half-widths-room : n ≤ halfWidthsLength) where
+    room-right : roomWrong (nodesOf file) tableLength tapesLength halfWidthsLength ≡ false
+    room-right = rw (nodes-back, le-ltb _ _ table-room, le-ltb _ _ tapes-room, le-ltb _ _ half-widths-room)
+
+    accepted : refusal file tableLength tapesLength halfWidthsLength ≡ 0
     unfolding refusal
     accepted = rw (length-right, check-right, place-right, layout-right, room-right)
 
     -- reading gives the contents back
-    pub round-trip : ReadBack n separation table tapes tableLength tapesLength
+    pub round-trip : ReadBack n separation table tapes halfWidths tableLength tapesLength halfWidthsLength
     round-trip = record {
       number = accepted;
       nodes = nodes-back;
       separation-back = separation-back;
       table-back = table-back;
       tapes-back = tapes-back;
+      half-widths-back = half-widths-back;
     }
 
   -- so the operation, reading the file into slices with room, answers with the contents
-  pub read-written : (old-table old-tapes table′ tapes′ : List ℕ) (answer : Sheet) → 2 * n ≤ length old-table → 2 * n ≤ length old-tapes
-      → SheetRead file old-table old-tapes answer table′ tapes′
+  pub read-written : (old-table old-tapes old-half-widths table′ tapes′ halfWidths′ : List ℕ) (answer : Sheet) → 2 * n ≤ length old-table
+      → 2 * n ≤ length old-tapes
+      → n ≤ length old-half-widths
+      → SheetRead file old-table old-tapes old-half-widths answer table′ tapes′ halfWidths′
       → (answer ≡ record { number = 0; nodes = n; separation = separation }) × (table′ ≡ overwrite table old-table) × (tapes′ ≡ overwrite tapes old-tapes)
-  read-written old-table old-tapes table′ tapes′ answer t s read =
-      let zero-number = accepted (length old-table) (length old-tapes) t s in
+      × (halfWidths′ ≡ overwrite halfWidths old-half-widths)
+  read-written old-table old-tapes old-half-widths table′ tapes′ halfWidths′ answer t s w read =
+      let zero-number = accepted (length old-table) (length old-tapes) (length old-half-widths) t s w in
       let number : answer .number ≡ 0 = read .number ∙ zero-number in
       let nodes : answer .nodes ≡ n = read .nodes ∙ rw zero-number nodes-back in
       let separated : answer .separation ≡ separation = read .separation ∙ rw zero-number separation-back in (
         (λ i. record { number = number i; nodes = nodes i; separation = separated i }),
         read .table-after ∙ rw (after-accepted, nodes-back, table-back),
         read .tapes-after ∙ rw (after-accepted, nodes-back, tapes-back),
+        read .half-widths-after ∙ rw (after-accepted, nodes-back, half-widths-back),
       )

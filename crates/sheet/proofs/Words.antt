@@ -1,4 +1,4 @@
--- Words and their bytes, words that are padded and closed, and pairs taken from a list. Assumes nothing.
+-- Words and their bytes, words that are padded and closed, and pairs and entries taken from a list. Assumes nothing.
 use mathlib.Core.Path.{_≡_, refl, sym, ap, ap₂, _∙_}
 use Prim.Native.Nat.{ℕ, zero, suc, _+_, _-_, _*_, _/_, _%_, _≤_, _<_}
 use native.Mathlib.Nat.{le-of-eq}
@@ -116,3 +116,12 @@ pairs-take (suc n) l h =
 
 pub pairs-joined : (n : ℕ) (l : List ℕ) → length l ≡ 2 * n → joined n (pairOf l) ≡ l
 pairs-joined n l h = pairs-take n l (le-of-eq (sym h)) ∙ take-all (2 * n) l (le-of-eq h)
+
+-- and its entries
+singles-take : (n : ℕ) (l : List ℕ) → n ≤ length l → joined n (λ i. getD l i 0 ∷ []) ≡ take n l
+unfolding joined
+singles-take zero l h = refl
+singles-take (suc n) l h = rw (singles-take n l (omega arith)) (sym (take-suc l n 0 (omega arith)))
+
+pub singles-joined : (n : ℕ) (l : List ℕ) → length l ≡ n → joined n (λ i. getD l i 0 ∷ []) ≡ l
+singles-joined n l h = singles-take n l (le-of-eq (sym h)) ∙ take-all n l (le-of-eq h)

@@ -1,6 +1,6 @@
 -- The blocks of a sheet's file, as the reader sees them: sound, in their places, laid out right, with every row where the layout
--- has it; and that the file tells nothing of tapes past two entries a node. Assumes nothing.
-use mathlib.Core.Path.{_≡_, refl, sym, ap, ap₂, _∙_}
+-- has it; and that the file tells nothing of tapes past two entries a node, and of half-widths past one. Assumes nothing.
+use mathlib.Core.Path.{_≡_, refl, ap, ap₂, _∙_}
 use Prim.Native.Nat.{ℕ, zero, suc, _+_, _*_, _/_, _%_, _≤_, _<_}
 use native.Mathlib.Omega.{arith}
 use mathlib.Core.Bool.{true}
@@ -10,25 +10,25 @@ use lib.Seq.{getD-take}
 use borrow.Author.Tests.{eq-eqb}
 use Rattle.sheet.specs.Block.{blockBytes, closingPlace, wordAt, bytesOf, blockAt, sound, inPlace}
 use Rattle.sheet.specs.Layout.{blockRows, rowWords, blocksFor, nodeBlock, nodeWord, rowsIn, countWord, usedWords, fixedHold, laidOut}
-use Rattle.sheet.specs.Read.{nodePair}
+use Rattle.sheet.specs.Read.{nodePair, nodeSingle}
 use Rattle.sheet.specs.File.{row, content, padded, closed, blockOf, fileOf}
 use Rattle.sheet.specs.Steps.{pairOf}
 use Rattle.sheet.proofs.Below.{split, every-holds, joined-cong, length-joined, joined-at, getD-joined}
 use Rattle.sheet.proofs.Fixed.{used-agrees, unused}
 use Rattle.sheet.proofs.Words.{length-bytes, word-bytes, length-closed, getD-closed, closed-sound}
 
-module _ (n separation : ℕ) (table tapes : List ℕ) where
+module _ (n separation : ℕ) (table tapes halfWidths : List ℕ) where
   -- the used words of block b
   abbrev body : ℕ → List ℕ
-  body b = b ∷ countWord n b ∷ content n separation table tapes b
+  body b = b ∷ countWord n b ∷ content n separation table tapes halfWidths b
 
   abbrev file : List ℕ
-  file = fileOf n separation table tapes
+  file = fileOf n separation table tapes halfWidths
 
   pub length-body : (b : ℕ) → length (body b) ≡ usedWords n b
   unfolding content usedWords row
   length-body zero = refl
-  length-body (suc b) = omega (arith, length-joined rowWords (λ i. row table tapes (blockRows * b + i)) (λ k. refl) (rowsIn n b))
+  length-body (suc b) = omega (arith, length-joined rowWords (λ i. row table tapes halfWidths (blockRows * b + i)) (λ k. refl) (rowsIn n b))
 
   used-fits : (b : ℕ) → usedWords n b ≤ closingPlace
   unfolding usedWords
@@ -43,23 +43,23 @@ module _ (n separation : ℕ) (table tapes : List ℕ) where
   pub body-fits : (b : ℕ) → length (body b) ≤ closingPlace
   body-fits b = omega (arith, length-body b, used-fits b)
 
-  pub block-size : (b : ℕ) → length (bytesOf (blockOf n separation table tapes b)) ≡ blockBytes
+  pub block-size : (b : ℕ) → length (bytesOf (blockOf n separation table tapes halfWidths b)) ≡ blockBytes
   unfolding blockOf
-  block-size b = omega (arith, length-bytes (blockOf n separation table tapes b), length-closed (body b) (body-fits b))
+  block-size b = omega (arith, length-bytes (blockOf n separation table tapes halfWidths b), length-closed (body b) (body-fits b))
 
   pub length-file : length file ≡ blockBytes * blocksFor n
   unfolding fileOf
-  length-file = length-joined blockBytes (λ b. bytesOf (blockOf n separation table tapes b)) block-size (blocksFor n)
+  length-file = length-joined blockBytes (λ b. bytesOf (blockOf n separation table tapes halfWidths b)) block-size (blocksFor n)
 
   module _ (b : ℕ) (l : b < blocksFor n) where
-    block-read : blockAt file b ≡ bytesOf (blockOf n separation table tapes b)
+    block-read : blockAt file b ≡ bytesOf (blockOf n separation table tapes halfWidths b)
     unfolding blockAt fileOf
-    block-read = joined-at blockBytes (λ b. bytesOf (blockOf n separation table tapes b)) block-size (blocksFor n) b l
+    block-read = joined-at blockBytes (λ b. bytesOf (blockOf n separation table tapes halfWidths b)) block-size (blocksFor n) b l
 
     -- word k of block b, before the closing word
     pub word-read : (k : ℕ) → k < closingPlace → wordAt (blockAt file b) k ≡ getD (body b) k 0
     unfolding blockOf
-    word-read k m = rw block-read (word-bytes (blockOf n separation table tapes b) k ∙ getD-closed (body b) (body-fits b) k m)
+    word-read k m = rw block-read (word-bytes (blockOf n separation table tapes halfWidths b) k ∙ getD-closed (body b) (body-fits b) k m)
 
     pub check-read : sound (blockAt file b) ≡ true
     unfolding blockOf sound
@@ -82,7 +82,7 @@ module _ (n separation : ℕ) (table tapes : List ℕ) where
 
   -- word j of node r's row
   module _ (r j : ℕ) (node : r < n) (field : j < rowWords) where
-    row-read : (word : ℕ) → word ≡ nodeWord r + j → wordAt (blockAt file (nodeBlock r)) word ≡ getD (row table tapes r) j 0
+    row-read : (word : ℕ) → word ≡ nodeWord r + j → wordAt (blockAt file (nodeBlock r)) word ≡ getD (row table tapes halfWidths r) j 0
     unfolding content row
     row-read word e =
         let b : ℕ = r / blockRows in
@@ -91,8 +91,8 @@ module _ (n separation : ℕ) (table tapes : List ℕ) where
         let whole : blockRows * b + r % blockRows ≡ r = omega arith in
         rw (block, place)
         (word-read (suc b) (omega arith) (suc (suc (rowWords * (r % blockRows) + j))) (omega arith)
-        ∙ getD-joined rowWords (λ i. row table tapes (blockRows * b + i)) (λ k. refl) (rowsIn n b) (r % blockRows) j (omega arith) field
-        ∙ ap (λ (node : ℕ). getD (row table tapes node) j 0) whole)
+        ∙ getD-joined rowWords (λ i. row table tapes halfWidths (blockRows * b + i)) (λ k. refl) (rowsIn n b) (r % blockRows) j (omega arith) field
+        ∙ ap (λ (node : ℕ). getD (row table tapes halfWidths node) j 0) whole)
 
   pub links-read : (r : ℕ) → r < n → nodePair file 0 r ≡ pairOf table r
   unfolding row
@@ -102,20 +102,23 @@ module _ (n separation : ℕ) (table tapes : List ℕ) where
   unfolding row
   tape-read r node = ap₂ (λ (x y : ℕ). x ∷ y ∷ []) (row-read r 2 node (omega arith) _ refl) (row-read r 3 node (omega arith) _ (omega arith))
 
-  -- of the tapes only two entries a node are looked at
-  tape-unseen : (r : ℕ) → r < n → row table tapes r ≡ row table (take (2 * n) tapes) r
+  pub half-width-read : (r : ℕ) → r < n → nodeSingle file 4 r ≡ getD halfWidths r 0 ∷ []
   unfolding row
-  tape-unseen r node =
-      ap₂ (λ (low high : ℕ). getD table (2 * r) 0 ∷ getD table (2 * r + 1) 0 ∷ low ∷ high ∷ []) (sym (getD-take (2 * n) tapes (2 * r) 0 (omega arith)))
-      (sym (getD-take (2 * n) tapes (2 * r + 1) 0 (omega arith)))
+  half-width-read r node = ap (λ (x : ℕ). x ∷ []) (row-read r 4 node (omega arith) _ refl)
 
-  content-unseen : (b : ℕ) → content n separation table tapes b ≡ content n separation table (take (2 * n) tapes) b
+  -- of the tapes only two entries a node are looked at, and of the half-widths one
+  row-unseen : (r : ℕ) → r < n → row table tapes halfWidths r ≡ row table (take (2 * n) tapes) (take n halfWidths) r
+  unfolding row
+  row-unseen r node =
+      rw (getD-take (2 * n) tapes (2 * r) 0 (omega arith), getD-take (2 * n) tapes (2 * r + 1) 0 (omega arith), getD-take n halfWidths r 0 node)
+
+  content-unseen : (b : ℕ) → content n separation table tapes halfWidths b ≡ content n separation table (take (2 * n) tapes) (take n halfWidths) b
   unfolding content
   content-unseen zero = refl
   content-unseen (suc b) =
-      joined-cong (rowsIn n b) _ _ (λ i l. let node : blockRows * b + i < n = omega arith in tape-unseen (blockRows * b + i) node)
+      joined-cong (rowsIn n b) _ _ (λ i l. let node : blockRows * b + i < n = omega arith in row-unseen (blockRows * b + i) node)
 
-  pub tapes-unseen : file ≡ fileOf n separation table (take (2 * n) tapes)
+  pub entries-unseen : file ≡ fileOf n separation table (take (2 * n) tapes) (take n halfWidths)
   unfolding fileOf blockOf
-  tapes-unseen =
+  entries-unseen =
       joined-cong (blocksFor n) _ _ (λ b l. ap (λ (used : List ℕ). bytesOf (closed (padded (b ∷ countWord n b ∷ used)))) (content-unseen b))

@@ -6,16 +6,17 @@ use lib.ListN.{length, getD, replicate}
 use Rattle.sheet.specs.Below.{joined}
 use Rattle.sheet.specs.Block.{closingPlace, bytesOf, closing}
 use Rattle.sheet.specs.Layout.{mostNodes, mostSeparation, blockRows, blocksFor, rowsIn, countWord}
-use Rattle.sheet.specs.Read.{nodesOf, separationOf, tableOf, tapesOf, refusal}
+use Rattle.sheet.specs.Read.{nodesOf, separationOf, tableOf, tapesOf, halfWidthsOf, refusal}
 
--- node r's row: first child, next sibling, tape low, tape high
-unfoldable pub row : List ℕ → List ℕ → ℕ → List ℕ
-row table tapes r = getD table (2 * r) 0 ∷ getD table (2 * r + 1) 0 ∷ getD tapes (2 * r) 0 ∷ getD tapes (2 * r + 1) 0 ∷ []
+-- node r's row: first child, next sibling, tape low, tape high, half-width
+unfoldable pub row : List ℕ → List ℕ → List ℕ → ℕ → List ℕ
+row table tapes halfWidths r =
+    getD table (2 * r) 0 ∷ getD table (2 * r + 1) 0 ∷ getD tapes (2 * r) 0 ∷ getD tapes (2 * r + 1) 0 ∷ getD halfWidths r 0 ∷ []
 
 -- the used words of block b after its place and its word 1: n and D in the header, and else the rows
-unfoldable pub content : ℕ → ℕ → List ℕ → List ℕ → ℕ → List ℕ
-content n separation table tapes zero = n ∷ separation ∷ []
-content n separation table tapes (suc b) = joined (rowsIn n b) (λ i. row table tapes (blockRows * b + i))
+unfoldable pub content : ℕ → ℕ → List ℕ → List ℕ → List ℕ → ℕ → List ℕ
+content n separation table tapes halfWidths zero = n ∷ separation ∷ []
+content n separation table tapes halfWidths (suc b) = joined (rowsIn n b) (λ i. row table tapes halfWidths (blockRows * b + i))
 
 -- words with 0 after them up to the closing word's place
 unfoldable pub padded : List ℕ → List ℕ
@@ -26,30 +27,32 @@ unfoldable pub closed : List ℕ → List ℕ
 closed words = words ++ closing words ∷ []
 
 -- the 256 words of block b
-unfoldable pub blockOf : ℕ → ℕ → List ℕ → List ℕ → ℕ → List ℕ
-blockOf n separation table tapes b = closed (padded (b ∷ countWord n b ∷ content n separation table tapes b))
+unfoldable pub blockOf : ℕ → ℕ → List ℕ → List ℕ → List ℕ → ℕ → List ℕ
+blockOf n separation table tapes halfWidths b = closed (padded (b ∷ countWord n b ∷ content n separation table tapes halfWidths b))
 
 -- the file's bytes
-unfoldable pub fileOf : ℕ → ℕ → List ℕ → List ℕ → List ℕ
-fileOf n separation table tapes = joined (blocksFor n) (λ b. bytesOf (blockOf n separation table tapes b))
+unfoldable pub fileOf : ℕ → ℕ → List ℕ → List ℕ → List ℕ → List ℕ
+fileOf n separation table tapes halfWidths = joined (blocksFor n) (λ b. bytesOf (blockOf n separation table tapes halfWidths b))
 
 -- every entry is below m
 abbrev pub EachBelow : ℕ → List ℕ → Type 0
 EachBelow m entries = (i : ℕ) → getD entries i 0 < m
 
--- what a file can hold: n and D in range, and two entries a node in the table and in the tape slice
-pub record Contents (n separation : ℕ) (table tapes : List ℕ) : Type 0 where
+-- what a file can hold: n and D in range, two entries a node in the table and in the tape slice, and one in the half-width slice
+pub record Contents (n separation : ℕ) (table tapes halfWidths : List ℕ) : Type 0 where
   pub nodes-least : 1 ≤ n
   pub nodes-most : n ≤ mostNodes
   pub separation-least : 1 ≤ separation
   pub separation-most : separation ≤ mostSeparation
   pub table-size : length table ≡ 2 * n
   pub tapes-size : length tapes ≡ 2 * n
+  pub half-widths-size : length halfWidths ≡ n
 
 -- reading the file, into slices of these lengths, is accepted and gives the contents back
-pub record ReadBack (n separation : ℕ) (table tapes : List ℕ) (tableLength tapesLength : ℕ) : Type 0 where
-  pub number : refusal (fileOf n separation table tapes) tableLength tapesLength ≡ 0
-  pub nodes : nodesOf (fileOf n separation table tapes) ≡ n
-  pub separation-back : separationOf (fileOf n separation table tapes) ≡ separation
-  pub table-back : tableOf (fileOf n separation table tapes) n ≡ table
-  pub tapes-back : tapesOf (fileOf n separation table tapes) n ≡ tapes
+pub record ReadBack (n separation : ℕ) (table tapes halfWidths : List ℕ) (tableLength tapesLength halfWidthsLength : ℕ) : Type 0 where
+  pub number : refusal (fileOf n separation table tapes halfWidths) tableLength tapesLength halfWidthsLength ≡ 0
+  pub nodes : nodesOf (fileOf n separation table tapes halfWidths) ≡ n
+  pub separation-back : separationOf (fileOf n separation table tapes halfWidths) ≡ separation
+  pub table-back : tableOf (fileOf n separation table tapes halfWidths) n ≡ table
+  pub tapes-back : tapesOf (fileOf n separation table tapes halfWidths) n ≡ tapes
+  pub half-widths-back : halfWidthsOf (fileOf n separation table tapes halfWidths) n ≡ halfWidths

@@ -21,17 +21,17 @@ firstWord = 2
 
 -- word 1 of the header, and how many words it uses from the first word on: n and D
 abbrev pub headerMark : ℕ
-headerMark = 0
+headerMark = 1
 
 abbrev pub headerWords : ℕ
 headerWords = 2
 
--- rows to a block, and words to a row: first child, next sibling, tape low, tape high
+-- rows to a block, and words to a row: first child, next sibling, tape low, tape high, half-width
 abbrev pub blockRows : ℕ
-blockRows = 63
+blockRows = 50
 
 abbrev pub rowWords : ℕ
-rowWords = 4
+rowWords = 5
 
 -- how many blocks a sheet of n nodes takes: the header, and just enough for the rows
 abbrev pub blocksFor : ℕ → ℕ

@@ -27,13 +27,21 @@ pairAt block k = wordAt block k ∷ wordAt block (k + 1) ∷ []
 abbrev pub nodePair : List ℕ → ℕ → ℕ → List ℕ
 nodePair file j r = pairAt (blockAt file (nodeBlock r)) (nodeWord r + j)
 
+-- word j of node r's row alone
+abbrev pub nodeSingle : List ℕ → ℕ → ℕ → List ℕ
+nodeSingle file j r = wordAt (blockAt file (nodeBlock r)) (nodeWord r + j) ∷ []
+
 -- of the nodes below n: first child and next sibling
 abbrev pub tableOf : List ℕ → ℕ → List ℕ
 tableOf file n = joined n (nodePair file 0)
 
--- and the tape number, low word and high word
+-- the tape number, low word and high word
 abbrev pub tapesOf : List ℕ → ℕ → List ℕ
 tapesOf file n = joined n (nodePair file 2)
+
+-- and the half-width
+abbrev pub halfWidthsOf : List ℕ → ℕ → List ℕ
+halfWidthsOf file n = joined n (nodeSingle file 4)
 
 -- a test fails for a block of the file
 abbrev pub someBlockFails : (ℕ → List ℕ → Bool) → List ℕ → Bool
@@ -67,30 +75,36 @@ layoutWrong file =
     || (not (eqb (length file) (blockBytes * blocksFor (nodesOf file)))
     || fixedWrong (nodesOf file) file))
 
--- 7: the table or the tape slice has fewer than 2n entries
-abbrev pub roomWrong : ℕ → ℕ → ℕ → Bool
-roomWrong n tableLength tapesLength = ltb tableLength (2 * n) || ltb tapesLength (2 * n)
+-- 7: the table or the tape slice has fewer than 2n entries, or the half-width slice fewer than n
+abbrev pub roomWrong : ℕ → ℕ → ℕ → ℕ → Bool
+roomWrong n tableLength tapesLength halfWidthsLength = ltb tableLength (2 * n) || (ltb tapesLength (2 * n) || ltb halfWidthsLength n)
 
 -- the conditions of the file in their order
 abbrev pub fileConditions : List ℕ → List Condition
 fileConditions file = 9 ⇐ lengthWrong (length file) ∷ 10 ⇐ checkWrong file ∷ 11 ⇐ placeWrong file ∷ 12 ⇐ layoutWrong file ∷ []
 
 -- and after them that of the slices
-abbrev pub conditions : List ℕ → ℕ → ℕ → List Condition
-conditions file tableLength tapesLength = fileConditions file ++ (7 ⇐ roomWrong (nodesOf file) tableLength tapesLength ∷ [])
+abbrev pub conditions : List ℕ → ℕ → ℕ → ℕ → List Condition
+conditions file tableLength tapesLength halfWidthsLength =
+    fileConditions file ++ (7 ⇐ roomWrong (nodesOf file) tableLength tapesLength halfWidthsLength ∷ [])
 
 -- the number of a file: 0 where it can be read
 unfoldable pub fileNumber : List ℕ → ℕ
 fileNumber file = first (fileConditions file)
 
 -- the number that reading gives, from the file and the slices' lengths
-unfoldable pub refusal : List ℕ → ℕ → ℕ → ℕ
-refusal file tableLength tapesLength = first (conditions file tableLength tapesLength)
+unfoldable pub refusal : List ℕ → ℕ → ℕ → ℕ → ℕ
+refusal file tableLength tapesLength halfWidthsLength = first (conditions file tableLength tapesLength halfWidthsLength)
 
--- what `read_sheet` promises of its answer and of both slices afterwards
-pub record SheetRead (file table tapes : List ℕ) (answer : Sheet) (table′ tapes′ : List ℕ) : Type 0 where
-  pub number : answer .number ≡ refusal file (length table) (length tapes)
-  pub nodes : answer .nodes ≡ granted (refusal file (length table) (length tapes)) (nodesOf file) 0
-  pub separation : answer .separation ≡ granted (refusal file (length table) (length tapes)) (separationOf file) 0
-  pub table-after : table′ ≡ after (refusal file (length table) (length tapes)) (tableOf file (nodesOf file)) table
-  pub tapes-after : tapes′ ≡ after (refusal file (length table) (length tapes)) (tapesOf file (nodesOf file)) tapes
+-- the number that reading gives for these slices
+abbrev pub numberRead : List ℕ → List ℕ → List ℕ → List ℕ → ℕ
+numberRead file table tapes halfWidths = refusal file (length table) (length tapes) (length halfWidths)
+
+-- what `read_sheet` promises of its answer and of the three slices afterwards
+pub record SheetRead (file table tapes halfWidths : List ℕ) (answer : Sheet) (table′ tapes′ halfWidths′ : List ℕ) : Type 0 where
+  pub number : answer .number ≡ numberRead file table tapes halfWidths
+  pub nodes : answer .nodes ≡ granted (numberRead file table tapes halfWidths) (nodesOf file) 0
+  pub separation : answer .separation ≡ granted (numberRead file table tapes halfWidths) (separationOf file) 0
+  pub table-after : table′ ≡ after (numberRead file table tapes halfWidths) (tableOf file (nodesOf file)) table
+  pub tapes-after : tapes′ ≡ after (numberRead file table tapes halfWidths) (tapesOf file (nodesOf file)) tapes
+  pub half-widths-after : halfWidths′ ≡ after (numberRead file table tapes halfWidths) (halfWidthsOf file (nodesOf file)) halfWidths

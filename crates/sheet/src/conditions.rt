@@ -11,14 +11,17 @@ use super::block::in_place;
 use super::block::is_sound;
 use super::header::nodes_of;
 use super::header::separation_of;
+use super::layout::FIRST_BLOCK;
 use super::layout::MOST_NODES;
 use super::layout::MOST_SEPARATION;
-use super::layout::block_laid;
 use super::layout::blocks_for;
+use super::layout::header_laid;
+use super::layout::rows_laid;
+use super::layout::rows_of;
 
 const LEAST_BYTES: usize = 1024;
 
-const MOST_BYTES: usize = 9216;
+const MOST_BYTES: usize = 11264;
 
 // Condition 9.
 fn length_wrong(bytes: usize) -> bool
@@ -73,17 +76,23 @@ fn is_within(greatest: usize, number: usize) -> bool
     number <= greatest
 }
 
-// Whether a word that the layout fixes differs, in any block.
+// Whether a word that the layout fixes differs, in any block. The count of nodes that are left is stepped from block to block.
 fn fixed_wrong(file: &[u8], nodes: usize) -> bool
     requires { ⌜ length (now file) ≡ blockBytes * blocksFor nodes ⌝ }
     ensures { λ r. ⌜ r ≡ fixedWrong nodes (now (file .entry)) ⌝ }
 {
+    if !header_laid(block_at(file, 0)) {
+        return true;
+    }
     let count = file.len() / BLOCK_BYTES;
-    let mut place: usize = 0;
+    let mut left = nodes;
+    let mut place = FIRST_BLOCK;
     while place < count {
-        if !block_laid(block_at(file, place), nodes, place) {
+        let rows = rows_of(left);
+        if !rows_laid(block_at(file, place), rows) {
             return true;
         }
+        left -= rows;
         place += 1;
     }
     false
@@ -108,20 +117,23 @@ fn layout_wrong(file: &[u8]) -> bool
     fixed_wrong(file, nodes)
 }
 
-// Condition 7; `table` and `tapes` are the slices' lengths.
-fn room_wrong(nodes: usize, table: usize, tapes: usize) -> bool
+// Condition 7; `table`, `tapes` and `widths` are the slices' lengths.
+fn room_wrong(nodes: usize, table: usize, tapes: usize, widths: usize) -> bool
     requires { ⌜ nodes < 65536 ⌝ }
-    ensures { λ r. ⌜ r ≡ roomWrong nodes table tapes ⌝ }
+    ensures { λ r. ⌜ r ≡ roomWrong nodes table tapes widths ⌝ }
 {
     if table < 2 * nodes {
         return true;
     }
-    tapes < 2 * nodes
+    if tapes < 2 * nodes {
+        return true;
+    }
+    widths < nodes
 }
 
-// The number of the first condition that holds, or 0; `table` and `tapes` are the slices' lengths.
-pub fn refusal_of(file: &[u8], table: usize, tapes: usize) -> u16
-    ensures { λ r. ⌜ r ≡ refusal (now (file .entry)) table tapes ⌝ }
+// The number of the first condition that holds, or 0; `table`, `tapes` and `widths` are the slices' lengths.
+pub fn refusal_of(file: &[u8], table: usize, tapes: usize, widths: usize) -> u16
+    ensures { λ r. ⌜ r ≡ refusal (now (file .entry)) table tapes widths ⌝ }
 {
     if length_wrong(file.len()) {
         return 9;
@@ -135,7 +147,7 @@ pub fn refusal_of(file: &[u8], table: usize, tapes: usize) -> u16
     if layout_wrong(file) {
         return 12;
     }
-    if room_wrong(nodes_of(file) as usize, table, tapes) {
+    if room_wrong(nodes_of(file) as usize, table, tapes, widths) {
         return 7;
     }
     0

@@ -1,26 +1,26 @@
 // The layout of a sheet of n nodes: its blocks, their rows, and the words that are fixed.
 ghost use mathlib.Core.Path.{_≡_};
-ghost use Prim.Native.Nat.{_+_, _*_, _<_, _≤_};
+ghost use Prim.Native.Nat.{_+_, _<_, _≤_, min};
 ghost use lib.ListN.{length};
 ghost use Rattle.sheet.specs.Block.{blockBytes, closingPlace};
-ghost use Rattle.sheet.specs.Layout.{blockRows, blocksFor, rowsIn, fixedHold, laidOut};
+ghost use Rattle.sheet.specs.Layout.{firstWord, headerMark, headerWords, blockRows, rowWord, blocksFor, fixedHold};
 use super::block::word;
 
 pub const MOST_NODES: usize = 1024;
 
 pub const MOST_SEPARATION: usize = 1024;
 
-const BLOCK_ROWS: usize = 63;
+const BLOCK_ROWS: usize = 50;
 
-pub const ROW_WORDS: usize = 4;
+pub const ROW_WORDS: usize = 5;
 
 pub const FIRST_BLOCK: usize = 1;
 
 pub const FIRST_WORD: usize = 2;
 
-pub const LAST_ROW_WORD: usize = 250;
+pub const LAST_ROW_WORD: usize = 247;
 
-pub const HEADER_MARK: usize = 0;
+pub const HEADER_MARK: usize = 1;
 
 pub const HEADER_WORDS: usize = 2;
 
@@ -34,12 +34,10 @@ pub fn blocks_for(nodes: usize) -> usize
     1 + (nodes + (BLOCK_ROWS - 1)) / BLOCK_ROWS
 }
 
-// How many rows block `place` + 1 holds.
-pub fn rows_in(nodes: usize, place: usize) -> usize
-    requires { ⌜ blockRows * place ≤ nodes ⌝ }
-    ensures { λ r. ⌜ r ≡ rowsIn nodes place ⌝ }
+// How many rows a block holds, where `left` nodes are left for it and the blocks after it.
+pub fn rows_of(left: usize) -> usize
+    ensures { λ r. ⌜ r ≡ min blockRows left ⌝ }
 {
-    let left = nodes - BLOCK_ROWS * place;
     if left < BLOCK_ROWS { left } else { BLOCK_ROWS }
 }
 
@@ -62,15 +60,18 @@ fn fixed_hold(block: &[u8], count: usize, used: usize) -> bool
     true
 }
 
-// Whether block `place` has every word that the layout fixes.
-pub fn block_laid(block: &[u8], nodes: usize, place: usize) -> bool
+// Whether the header has every word that the layout fixes.
+pub fn header_laid(block: &[u8]) -> bool
     requires { ⌜ length (now block) ≡ blockBytes ⌝ }
-    requires { ⌜ place < blocksFor nodes ⌝ }
-    ensures { λ r. ⌜ r ≡ laidOut nodes place (now (block .entry)) ⌝ }
+    ensures { λ r. ⌜ r ≡ fixedHold headerMark (firstWord + headerWords) (now (block .entry)) ⌝ }
 {
-    if place == 0 {
-        return fixed_hold(block, HEADER_MARK, FIRST_WORD + HEADER_WORDS);
-    }
-    let rows = rows_in(nodes, place - 1);
+    fixed_hold(block, HEADER_MARK, FIRST_WORD + HEADER_WORDS)
+}
+
+// Whether a block of so many rows has every word that the layout fixes.
+pub fn rows_laid(block: &[u8], rows: usize) -> bool
+    requires { ⌜ (length (now block) ≡ blockBytes) × (rows ≤ blockRows) ⌝ }
+    ensures { λ r. ⌜ r ≡ fixedHold rows (rowWord rows) (now (block .entry)) ⌝ }
+{
     fixed_hold(block, rows, FIRST_WORD + ROW_WORDS * rows)
 }

@@ -9,6 +9,7 @@ pub mod Linked
 pub mod Accepted
 pub mod Parts
 pub mod Reached
+pub mod Rename
 pub mod Stands
 pub mod Followed
 pub mod TableOf

@@ -1,4 +1,4 @@
-// The sheet file of the paper's example: the root with tape 500 and its leaves 501 and 502, D = 3.
+// The sheet file of the paper's example: the root with tape 500 and its leaves 501 and 502, D = 3, half-widths 0.
 ghost use Prim.Native.Nat.{_<_};
 
 // Stores a word, low byte first.
@@ -20,14 +20,15 @@ fn put_row(file: &mut [u8; 1024], word: usize, child: u16, sibling: u16, tape: u
 
 pub fn file() -> [u8; 1024] {
     let mut file = [0u8; 1024];
+    put(&mut file, 1, 1);
     put(&mut file, 2, 3);
     put(&mut file, 3, 3);
-    put(&mut file, 255, 65530);
+    put(&mut file, 255, 65529);
     put(&mut file, 256, 1);
     put(&mut file, 257, 3);
     put_row(&mut file, 258, 1, 65535, 500);
-    put_row(&mut file, 262, 65535, 2, 501);
-    put_row(&mut file, 266, 65535, 65535, 502);
+    put_row(&mut file, 263, 65535, 2, 501);
+    put_row(&mut file, 268, 65535, 65535, 502);
     put(&mut file, 511, 64030);
     file
 }

@@ -75,7 +75,7 @@ fn try_renumber(what: &[u8], table: &[u16; 6]) {
     say(b"\n");
 }
 
-fn say_sheet(nodes: u16, separation: u16, table: &[u16; 6], tapes: &[u16; 6]) {
+fn say_sheet(nodes: u16, separation: u16, table: &[u16; 6], tapes: &[u16; 6], widths: &[u16; 3]) {
     say(b", nodes");
     say_number(nodes);
     say(b", separation");
@@ -84,17 +84,22 @@ fn say_sheet(nodes: u16, separation: u16, table: &[u16; 6], tapes: &[u16; 6]) {
     say_entries(table);
     say(b", tapes");
     say_entries(tapes);
+    say(b", half-widths");
+    say_number(widths[0]);
+    say_number(widths[1]);
+    say_number(widths[2]);
 }
 
 fn try_read(what: &[u8], file: &[u8]) {
     let mut table = [0u16; 6];
     let mut tapes = [0u16; 6];
+    let mut widths = [0u16; 3];
     say(what);
     say(b": read");
-    let sheet = sheet::read_sheet(file, &mut table, &mut tapes);
+    let sheet = sheet::read_sheet(file, &mut table, &mut tapes, &mut widths);
     say_answer(sheet.number);
     if sheet.number == 0 {
-        say_sheet(sheet.nodes, sheet.separation, &table, &tapes);
+        say_sheet(sheet.nodes, sheet.separation, &table, &tapes, &widths);
     }
     say(b"\n");
 }
@@ -134,7 +139,7 @@ fn say_listing(
     say(&text[..end]);
 }
 
-fn try_layout(what: &[u8], table: &[u16], separation: u16, work: &mut [i32]) {
+fn try_layout(what: &[u8], table: &[u16], separation: u16, widths: &[u16], work: &mut [i32]) {
     let mut places = [0i32; 1024];
     let mut levels = [0u16; 1024];
     let mut measured = [0u16; 2048];
@@ -143,6 +148,7 @@ fn try_layout(what: &[u8], table: &[u16], separation: u16, work: &mut [i32]) {
     let drawn = layout::layout(
         table,
         separation,
+        widths,
         &mut places,
         &mut levels,
         &mut measured,
@@ -215,22 +221,65 @@ fn try_turned_tables() {
 fn try_separations() {
     let family = [1, NONE, NONE, 2, NONE, NONE];
     let mut work = [0i32; 48];
-    try_layout(b"two leaves, D = 1", &family, 1, &mut work);
-    try_layout(b"two leaves, D = 1,024", &family, 1024, &mut work);
-    try_layout(b"two leaves, D = 1,025", &family, 1025, &mut work);
-    try_layout(b"two leaves, D = 0", &family, 0, &mut work);
+    let none = [0u16; 3];
+    try_layout(b"two leaves, D = 1", &family, 1, &none, &mut work);
+    try_layout(b"two leaves, D = 1,024", &family, 1024, &none, &mut work);
+    try_layout(b"two leaves, D = 1,025", &family, 1025, &none, &mut work);
+    try_layout(b"two leaves, D = 0", &family, 0, &none, &mut work);
+}
+
+fn try_half_widths() {
+    let family = [1, NONE, NONE, 2, NONE, NONE];
+    let mut work = [0i32; 48];
+    let widths = [256, 4, 256, 257];
+    try_layout(
+        b"two leaves, half-widths 256, 4, 256 and a fourth of 257",
+        &family,
+        3,
+        &widths,
+        &mut work,
+    );
+    try_layout(
+        b"two leaves, half-widths 0, 0, 257",
+        &family,
+        3,
+        &[0, 0, 257],
+        &mut work,
+    );
+    try_layout(
+        b"two leaves, two half-widths",
+        &family,
+        3,
+        &widths[..2],
+        &mut work,
+    );
+    try_layout(
+        b"two leaves, D = 0, no half-widths",
+        &family,
+        0,
+        &widths[..0],
+        &mut work,
+    );
 }
 
 fn try_working_slices() {
     let family = [1, NONE, NONE, 2, NONE, NONE];
     let mut work = [0i32; 48];
     let mut short = [0i32; 47];
-    try_layout(b"two leaves, work of 16n", &family, 3, &mut work);
-    try_layout(b"two leaves, work of 16n - 1", &family, 3, &mut short);
+    let none = [0u16; 3];
+    try_layout(b"two leaves, work of 16n", &family, 3, &none, &mut work);
+    try_layout(
+        b"two leaves, work of 16n - 1",
+        &family,
+        3,
+        &none,
+        &mut short,
+    );
     try_layout(
         b"1 and 2 name each other as first child",
         &[NONE, NONE, 2, NONE, 1, NONE],
         3,
+        &none,
         &mut work,
     );
 }
@@ -238,18 +287,26 @@ fn try_working_slices() {
 fn try_star(work: &mut [i32]) {
     let mut star = each_names_next(1, 1);
     star[0] = 1;
-    try_layout(b"a star of length 2,048, D = 1", &star, 1, work);
-    try_layout(b"a star of length 2,048, D = 1,024", &star, 1024, work);
+    let none = [0u16; 1024];
+    try_layout(b"a star of length 2,048, D = 1", &star, 1, &none, work);
+    try_layout(
+        b"a star of length 2,048, D = 1,024",
+        &star,
+        1024,
+        &none,
+        work,
+    );
 }
 
 fn try_large_layouts() {
     let chain = each_names_next(0, 0);
     let mut work = [0i32; 16384];
-    try_layout(b"a chain of length 2,048", &chain, 1024, &mut work);
+    let none = [0u16; 1024];
+    try_layout(b"a chain of length 2,048", &chain, 1024, &none, &mut work);
     try_star(&mut work);
-    try_layout(b"length 2,050", &[NONE; 2050], 1, &mut work);
+    try_layout(b"length 2,050", &[NONE; 2050], 1, &none, &mut work);
     let mut short = [0i32; 16383];
-    try_layout(b"a chain, work of 16n - 1", &chain, 1024, &mut short);
+    try_layout(b"a chain, work of 16n - 1", &chain, 1024, &none, &mut short);
 }
 
 fn try_file(what: &[u8], file: &[u8]) {
@@ -269,6 +326,7 @@ fn main() {
     try_long_tables();
     try_turned_tables();
     try_separations();
+    try_half_widths();
     try_working_slices();
     try_large_layouts();
     try_files();

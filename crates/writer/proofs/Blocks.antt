@@ -17,13 +17,13 @@ use Rattle.sheet.proofs.Below.{joined-more, length-joined}
 use Rattle.sheet.proofs.Written.{block-size}
 use Rattle.writer.specs.Steps.{rowsFrom, blockOver}
 
-module _ (n D : ℕ) (table tapes : List ℕ) where
+module _ (n D : ℕ) (table tapes halfWidths : List ℕ) where
   -- the first blocks of the file
   abbrev pub front : ℕ → List ℕ
-  front count = joined count (λ b. bytesOf (blockOf n D table tapes b))
+  front count = joined count (λ b. bytesOf (blockOf n D table tapes halfWidths b))
 
   pub length-front : (count : ℕ) → length (front count) ≡ blockBytes * count
-  length-front count = length-joined blockBytes (λ b. bytesOf (blockOf n D table tapes b)) (block-size n D table tapes) count
+  length-front count = length-joined blockBytes (λ b. bytesOf (blockOf n D table tapes halfWidths b)) (block-size n D table tapes halfWidths) count
 
   -- the output keeps its length while blocks are written to it
   pub length-written : (count : ℕ) (old : List ℕ) → blockBytes * count ≤ length old → length (overwrite (front count) old) ≡ length old
@@ -34,20 +34,21 @@ module _ (n D : ℕ) (table tapes : List ℕ) where
   header-first old = refl
 
   -- the block of rows after block b
-  block-next : (b : ℕ) (old : List ℕ) → blockOver ((b + 1) ∷ rowsIn n b ∷ rowsFrom table tapes (blockRows * b) (rowsIn n b)) old
-      ≡ overwrite (bytesOf (blockOf n D table tapes (b + 1))) old
+  block-next : (b : ℕ) (old : List ℕ) → blockOver ((b + 1) ∷ rowsIn n b ∷ rowsFrom table tapes halfWidths (blockRows * b) (rowsIn n b)) old
+      ≡ overwrite (bytesOf (blockOf n D table tapes halfWidths (b + 1))) old
   unfolding blockOver blockOf countWord content
   block-next b old = rw (add-one b)
 
   pub block-more : (b place first : ℕ) (old current last : List ℕ) → place ≡ b + 1 → first ≡ blockRows * b → blockBytes * place ≤ length old
       → current ≡ overwrite (front place) old
       → last
-      ≡ blockOver (place ∷ rowsIn n b ∷ rowsFrom table tapes first (rowsIn n b)) (midOf (blockBytes * place) (length current - blockBytes * place) current)
+      ≡ blockOver (place ∷ rowsIn n b ∷ rowsFrom table tapes halfWidths first (rowsIn n b))
+      (midOf (blockBytes * place) (length current - blockBytes * place) current)
       → putMid (blockBytes * place) (length current - blockBytes * place) current last ≡ overwrite (front (place + 1)) old
   block-more b place first old current last isPlace isFirst room isCurrent isLast =
-      overwrite-more (front place) (bytesOf (blockOf n D table tapes place)) old current last (blockBytes * place) (length-front place) room isCurrent
-      (isLast ∙ rw (isPlace, isFirst) (block-next b _))
-      ∙ ap (λ (new : List ℕ). overwrite new old) (sym (joined-more place (λ k. bytesOf (blockOf n D table tapes k))))
+      overwrite-more (front place) (bytesOf (blockOf n D table tapes halfWidths place)) old current last (blockBytes * place) (length-front place) room
+      isCurrent (isLast ∙ rw (isPlace, isFirst) (block-next b _))
+      ∙ ap (λ (new : List ℕ). overwrite new old) (sym (joined-more place (λ k. bytesOf (blockOf n D table tapes halfWidths k))))
 
   -- the loop begins with the header written, and ends with all blocks
   pub blocks-begun : (old first : List ℕ) → first ≡ blockOver (0 ∷ headerMark ∷ n ∷ D ∷ []) old → first ≡ overwrite (front 1) first
@@ -57,7 +58,7 @@ module _ (n D : ℕ) (table tapes : List ℕ) where
 
   pub blocks-ended : (count : ℕ) (old first current : List ℕ) → count ≡ blocksFor n → first ≡ blockOver (0 ∷ headerMark ∷ n ∷ D ∷ []) old
       → current ≡ overwrite (front count) first
-      → current ≡ overwrite (fileOf n D table tapes) old
+      → current ≡ overwrite (fileOf n D table tapes halfWidths) old
   unfolding fileOf
   blocks-ended count old first current all isFirst isCurrent =
       isCurrent

@@ -12,19 +12,19 @@ use Rattle.sheet.proofs.Places.{row-at}
 use Rattle.writer.specs.Steps.{storeWords, rowsFrom}
 use Rattle.writer.proofs.Stored.{stored-next}
 
-module _ (table tapes : List ℕ) (first : ℕ) where
-  pub length-rows : (k : ℕ) → length (rowsFrom table tapes first k) ≡ rowWords * k
+module _ (table tapes halfWidths : List ℕ) (first : ℕ) where
+  pub length-rows : (k : ℕ) → length (rowsFrom table tapes halfWidths first k) ≡ rowWords * k
   unfolding row
-  length-rows k = length-joined rowWords (λ i. row table tapes (first + i)) (λ i. refl) k
+  length-rows k = length-joined rowWords (λ i. row table tapes halfWidths (first + i)) (λ i. refl) k
 
   -- the row of one node more
-  pub rows-more : (block current last : List ℕ) (k : ℕ) → current ≡ storeWords block firstWord (rowsFrom table tapes first k)
-      → last ≡ storeWords current (rowWord k) (row table tapes (first + k))
-      → last ≡ storeWords block firstWord (rowsFrom table tapes first (k + 1))
+  pub rows-more : (block current last : List ℕ) (k : ℕ) → current ≡ storeWords block firstWord (rowsFrom table tapes halfWidths first k)
+      → last ≡ storeWords current (rowWord k) (row table tapes halfWidths (first + k))
+      → last ≡ storeWords block firstWord (rowsFrom table tapes halfWidths first (k + 1))
   rows-more block current last k isCurrent isLast =
-      stored-next block firstWord (rowsFrom table tapes first k) (row table tapes (first + k)) current last (rowWord k) (omega (arith, length-rows k)) isCurrent
-      isLast
-      ∙ ap (storeWords block firstWord) (sym (joined-more k (λ i. row table tapes (first + i))))
+      stored-next block firstWord (rowsFrom table tapes halfWidths first k) (row table tapes halfWidths (first + k)) current last (rowWord k)
+      (omega (arith, length-rows k)) isCurrent isLast
+      ∙ ap (storeWords block firstWord) (sym (joined-more k (λ i. row table tapes halfWidths (first + i))))
 
 -- node r stands in the block of rows whose first node is `first`
 module _ (n b first r : ℕ) (begins : first ≡ blockRows * b) (from : first ≤ r) (to : r < first + rowsIn n b) where

@@ -17,14 +17,16 @@ use Rattle.writer.specs.Write.{sheetFile}
 unfoldable pub storeWords : List ℕ → ℕ → List ℕ → List ℕ
 storeWords block k words = sets block (2 * k) (bytesOf words)
 
--- a block of rows is begun: the walk stands at its first row, and each of the nodes has two entries in the table and in the tape slice
-pub record Begun (n : ℕ) (from : RowPlace) (table tapes : List ℕ) : Type 0 where
+-- a block of rows is begun: the walk stands at its first row, and each of the nodes has two entries in the table and in the tape slice, and
+-- one in the half-width slice
+pub record Begun (n : ℕ) (from : RowPlace) (table tapes halfWidths : List ℕ) : Type 0 where
   pub on-row : OnRow from
   pub first : from .node ≡ blockRows * (from .block - 1)
   pub left : from .node < n
   pub few : n < 65536
   pub in-table : 2 * n ≤ length table
   pub in-tapes : 2 * n ≤ length tapes
+  pub in-half-widths : n ≤ length halfWidths
 
 -- how many rows stand in the block that begins with a row
 abbrev pub rowsOf : ℕ → RowPlace → ℕ
@@ -36,8 +38,8 @@ pub record Past (n : ℕ) (from next : RowPlace) : Type 0 where
   pub node : next .node ≡ from .node + rowsOf n from
 
 -- the rows of nodes, from node `first` on
-abbrev pub rowsFrom : List ℕ → List ℕ → ℕ → ℕ → List ℕ
-rowsFrom table tapes first rows = joined rows (λ i. row table tapes (first + i))
+abbrev pub rowsFrom : List ℕ → List ℕ → List ℕ → ℕ → ℕ → List ℕ
+rowsFrom table tapes halfWidths first rows = joined rows (λ i. row table tapes halfWidths (first + i))
 
 -- a block with 0 in its words from `used` on, up to the closing word
 abbrev pub zeroed : ℕ → List ℕ → List ℕ
@@ -56,6 +58,6 @@ unfoldable pub blockOver : List ℕ → List ℕ → List ℕ
 blockOver words old = overwrite (bytesOf (closed (padded words))) old
 
 -- the file of a sheet at the start of the output, and its length
-pub record FileWritten (table : List ℕ) (separation : ℕ) (tapes out : List ℕ) (bytes : ℕ) (out′ : List ℕ) : Type 0 where
-  pub count : bytes ≡ length (sheetFile table separation tapes)
-  pub out-after : out′ ≡ overwrite (sheetFile table separation tapes) out
+pub record FileWritten (table : List ℕ) (separation : ℕ) (tapes halfWidths out : List ℕ) (bytes : ℕ) (out′ : List ℕ) : Type 0 where
+  pub count : bytes ≡ length (sheetFile table separation tapes halfWidths)
+  pub out-after : out′ ≡ overwrite (sheetFile table separation tapes halfWidths) out

@@ -16,7 +16,7 @@ use sheet::layout::HEADER_MARK;
 use sheet::layout::HEADER_WORDS;
 use sheet::layout::LAST_ROW_WORD;
 use sheet::layout::ROW_WORDS;
-use sheet::layout::rows_in;
+use sheet::layout::rows_of;
 use sheet::walk::RowPlace;
 use sheet::walk::next_row;
 
@@ -53,37 +53,44 @@ fn put_head(block: &mut [u8], place: usize, count: usize)
     put(block, 1, count as u16);
 }
 
-// Stores a node's row: first child, next sibling, tape low, tape high.
-fn put_row(block: &mut [u8], at: RowPlace, table: &[u16], tapes: &[u16])
+// Stores a node's row: first child, next sibling, tape low, tape high, half-width.
+fn put_row(block: &mut [u8], at: RowPlace, table: &[u16], tapes: &[u16], widths: &[u16])
     requires { ⌜ (OnRow at) × (blockBytes ≤ length (now block)) ⌝ }
-    requires { ⌜ (2 * at .node + 1 < length (now table)) × (2 * at .node + 1 < length (now tapes)) ⌝ }
-    ensures { λ _. ⌜ now (block .exit) ≡ storeWords (now (block .entry)) (nodeWord (at .node)) (row (now (table .entry)) (now (tapes .entry)) (at .node)) ⌝ }
+    requires { ⌜ (2 * at .node + 1 < length (now table)) × (2 * at .node + 1 < length (now tapes)) × (at .node < length (now widths)) ⌝ }
+    ensures { λ _. ⌜ now (block .exit) ≡ storeWords (now (block .entry)) (nodeWord (at .node)) (row (now (table .entry)) (now (tapes .entry)) (now (widths .entry)) (at .node)) ⌝ }
 {
-    put_pair(block, at.word, table, at.node);
-    put_pair(block, at.word + 2, tapes, at.node);
+    let node = at.node;
+    put_pair(block, at.word, table, node);
+    put_pair(block, at.word + 2, tapes, node);
+    put(block, at.word + 4, widths[node]);
 }
 
 // Stores the rows of a block from its first one on, and gives the row after them. The last one is stored after the loop, so that the loop
-// stays in the block.
+// stays in the block; the first one's word is given anew, so that the rows are counted without a division.
 fn put_rows(
     block: &mut [u8],
     from: RowPlace,
     nodes: usize,
     table: &[u16],
     tapes: &[u16],
+    widths: &[u16],
 ) -> RowPlace
-    requires { ⌜ Begun nodes from (now table) (now tapes) ⌝ }
+    requires { ⌜ Begun nodes from (now table) (now tapes) (now widths) ⌝ }
     requires { ⌜ blockBytes ≤ length (now block) ⌝ }
     ensures { λ r. ⌜ Past nodes from r ⌝ }
-    ensures { λ _. ⌜ now (block .exit) ≡ storeWords (now (block .entry)) firstWord (rowsFrom (now (table .entry)) (now (tapes .entry)) (from .node) (rowsOf nodes from)) ⌝ }
+    ensures { λ _. ⌜ now (block .exit) ≡ storeWords (now (block .entry)) firstWord (rowsFrom (now (table .entry)) (now (tapes .entry)) (now (widths .entry)) (from .node) (rowsOf nodes from)) ⌝ }
 {
     let last = nodes - 1;
-    let mut at = from;
+    let mut at = RowPlace {
+        node: from.node,
+        block: from.block,
+        word: FIRST_WORD,
+    };
     while at.node < last && at.word < LAST_ROW_WORD {
-        put_row(block, at, table, tapes);
+        put_row(block, at, table, tapes, widths);
         at = next_row(at);
     }
-    put_row(block, at, table, tapes);
+    put_row(block, at, table, tapes, widths);
     next_row(at)
 }
 
@@ -127,15 +134,16 @@ pub fn write_block(
     nodes: usize,
     table: &[u16],
     tapes: &[u16],
+    widths: &[u16],
 ) -> RowPlace
-    requires { ⌜ Begun nodes from (now table) (now tapes) ⌝ }
+    requires { ⌜ Begun nodes from (now table) (now tapes) (now widths) ⌝ }
     requires { ⌜ blockBytes ≤ length (now block) ⌝ }
     ensures { λ r. ⌜ Past nodes from r ⌝ }
-    ensures { λ _. ⌜ now (block .exit) ≡ blockOver (from .block ∷ rowsOf nodes from ∷ rowsFrom (now (table .entry)) (now (tapes .entry)) (from .node) (rowsOf nodes from)) (now (block .entry)) ⌝ }
+    ensures { λ _. ⌜ now (block .exit) ≡ blockOver (from .block ∷ rowsOf nodes from ∷ rowsFrom (now (table .entry)) (now (tapes .entry)) (now (widths .entry)) (from .node) (rowsOf nodes from)) (now (block .entry)) ⌝ }
 {
-    let rows = rows_in(nodes, from.block - 1);
+    let rows = rows_of(nodes - from.node);
     put_head(block, from.block, rows);
-    let next = put_rows(block, from, nodes, table, tapes);
+    let next = put_rows(block, from, nodes, table, tapes, widths);
     put_zeros(block, FIRST_WORD + ROW_WORDS * rows);
     close(block);
     next

@@ -1,5 +1,5 @@
-// The writer of sheet files. The table, D and the slices are judged by the conditions 1 to 5, 14, 6, 13 and 7; then the file is written block
-// by block.
+// The writer of sheet files. The table, D and the slices are judged by the conditions 1 to 5, 14, 6, 13, 17 and 7; then the file is written
+// block by block.
 ghost use mathlib.Core.Path.{_≡_};
 ghost use Prim.Native.Nat.{_*_, _≤_};
 ghost use lib.ListN.{length};
@@ -23,8 +23,8 @@ pub struct Written {
 }
 
 // The number of the first condition that holds, or 0.
-fn write_number(table: &[u16], separation: u16, tapes: &[u16], out: &[u8]) -> u16
-    ensures { λ r. ⌜ r ≡ writeNumber (now (table .entry)) separation (now (tapes .entry)) (now (out .entry)) ⌝ }
+fn write_number(table: &[u16], separation: u16, tapes: &[u16], widths: &[u16], out: &[u8]) -> u16
+    ensures { λ r. ⌜ r ≡ writeNumber (now (table .entry)) separation (now (tapes .entry)) (now (widths .entry)) (now (out .entry)) ⌝ }
 {
     let checked = tree::check_table(table);
     let number = checked.number;
@@ -38,6 +38,9 @@ fn write_number(table: &[u16], separation: u16, tapes: &[u16], out: &[u8]) -> u1
     if tapes.len() < 2 * n {
         return 13;
     }
+    if distance::half_widths_wrong(widths, n) {
+        return 17;
+    }
     if out.len() < BLOCK_BYTES * blocks_for(n) {
         return 7;
     }
@@ -45,34 +48,43 @@ fn write_number(table: &[u16], separation: u16, tapes: &[u16], out: &[u8]) -> u1
 }
 
 // Writes the file of a sheet that is accepted, and says how many bytes it has.
-fn write_blocks(table: &[u16], separation: u16, tapes: &[u16], out: &mut [u8]) -> usize
+fn write_blocks(
+    table: &[u16],
+    separation: u16,
+    tapes: &[u16],
+    widths: &[u16],
+    out: &mut [u8],
+) -> usize
     requires { ⌜ tableNumber (now table) ≡ 0 ⌝ }
-    requires { ⌜ 2 * nodes (now table) ≤ length (now tapes) ⌝ }
-    requires { ⌜ length (sheetFile (now table) separation (now tapes)) ≤ length (now out) ⌝ }
-    ensures { λ r. ⌜ FileWritten (now (table .entry)) separation (now (tapes .entry)) (now (out .entry)) r (now (out .exit)) ⌝ }
+    requires { ⌜ (2 * nodes (now table) ≤ length (now tapes)) × (nodes (now table) ≤ length (now widths)) ⌝ }
+    requires { ⌜ length (sheetFile (now table) separation (now tapes) (now widths)) ≤ length (now out) ⌝ }
+    ensures { λ r. ⌜ FileWritten (now (table .entry)) separation (now (tapes .entry)) (now (widths .entry)) (now (out .entry)) r (now (out .exit)) ⌝ }
 {
     let n = table.len() / 2;
     write_header(out, n, separation);
     let mut at = first_row();
     while at.node < n {
         let start = BLOCK_BYTES * at.block;
-        at = write_block(&mut out[start..], at, n, table, tapes);
+        at = write_block(&mut out[start..], at, n, table, tapes, widths);
     }
     BLOCK_BYTES * blocks_for(n)
 }
 
 // Writes a sheet. Where it is accepted, its file stands at the start of `out`, and bytes past it are untouched; entries of `tapes` past
-// two a node are not looked at. A refusal changes nothing.
-pub fn write_sheet(table: &[u16], separation: u16, tapes: &[u16], out: &mut [u8]) -> Written
-    ensures { λ r. ⌜ SheetWritten (now (table .entry)) separation (now (tapes .entry)) (now (out .entry)) r (now (out .exit)) ⌝ }
+// two a node, and of `widths` past one, are not looked at. A refusal changes nothing.
+pub fn write_sheet(
+    table: &[u16],
+    separation: u16,
+    tapes: &[u16],
+    widths: &[u16],
+    out: &mut [u8],
+) -> Written
+    ensures { λ r. ⌜ SheetWritten (now (table .entry)) separation (now (tapes .entry)) (now (widths .entry)) (now (out .entry)) r (now (out .exit)) ⌝ }
 {
-    let number = write_number(table, separation, tapes, out);
+    let number = write_number(table, separation, tapes, widths, out);
     if number != 0 {
         return Written { number, bytes: 0 };
     }
-    let bytes = write_blocks(table, separation, tapes, out);
-    Written {
-        number: 0,
-        bytes: bytes as u16,
-    }
+    let bytes = write_blocks(table, separation, tapes, widths, out) as u16;
+    Written { number: 0, bytes }
 }

@@ -2,10 +2,11 @@
 //!
 //! `bench_layout cases OPERATION` prints one line for each call: operation, shape, size, and the
 //! count of nodes. `bench_layout run OPERATION` makes the calls in that order. The operations are
-//! `layout` and `check`, the table check that is a part of every layout. The trees are those of
-//! `bench_pointer`.
+//! `layout`, with half-widths 0; `wide`, with half-widths of up to 256; and `check`, the table
+//! check that is a part of every layout. The trees and half-widths are those of `bench_pointer`.
 
 use reference::ffi::{self, Fields, Slices};
+use reference::half_widths::{some_up_to, MOST_HALF_WIDTH};
 use reference::random::Random;
 use reference::shapes;
 use std::env;
@@ -19,7 +20,7 @@ fn main() {
     let [_, mode, operation] = &arguments[..] else {
         panic!("usage: bench_layout cases|run OPERATION");
     };
-    let mut random = Random::new(1);
+    let (mut random, mut widths_random) = (Random::new(1), Random::new(2));
     let (mut places, mut levels) = (vec![0; 1_024], vec![0; 1_024]);
     let (mut record, mut work) = (vec![0; 2_048], vec![0; 16_384]);
     let mut lent = Slices {
@@ -35,10 +36,17 @@ fn main() {
             } else {
                 let mut fields = Fields::default();
                 let table = black_box(&table);
+                let nodes = table.len() / 2;
+                let half_widths = match operation.as_str() {
+                    "wide" => some_up_to(MOST_HALF_WIDTH, nodes, &mut widths_random),
+                    _ => vec![0; nodes],
+                };
                 let number = match operation.as_str() {
-                    "layout" => ffi::layout(table, SEPARATION, &mut lent, &mut fields),
+                    "layout" | "wide" => {
+                        ffi::layout(table, SEPARATION, &half_widths, &mut lent, &mut fields)
+                    }
                     "check" => ffi::check_table(table, &mut fields.nodes),
-                    _ => panic!("an operation is layout or check"),
+                    _ => panic!("an operation is layout, wide or check"),
                 };
                 assert_eq!(number, 0);
                 black_box(fields);

@@ -36,7 +36,7 @@ struct Case {
     file: Vec<u8>,
 }
 
-/// The trees of `time_layout`, with tape numbers of up to 32 bits.
+/// The trees of `time_layout`, with tape numbers of up to 32 bits and half-widths 0.
 fn cases() -> Vec<Case> {
     let mut random = Random::new(1);
     let trees = shapes::trees_of_each_shape(NODES, &mut random);
@@ -48,6 +48,7 @@ fn cases() -> Vec<Case> {
             file: sheet::write(&Sheet {
                 separation: SEPARATION,
                 tapes: table.iter().map(|_| random.word()).collect(),
+                half_widths: vec![0; table.len() / 2],
                 table,
             }),
         })

@@ -2,9 +2,10 @@
 //!
 //! `bench_pointer cases OPERATION` prints one line for each call: operation, shape, size, and the
 //! count of nodes. `bench_pointer run OPERATION` makes the calls in that order. The operations are
-//! `places` (places, levels and extremes) and `record` (the measured pairs too). Neither checks
-//! the table.
+//! `places` (places, levels and extremes) and `record` (the measured pairs too), with half-widths
+//! 0, and `wide`: the same as `record` with half-widths of up to 256. None checks the table.
 
+use reference::half_widths::{some_up_to, MOST_HALF_WIDTH};
 use reference::pointer::{Extent, Pointers};
 use reference::random::Random;
 use reference::shapes;
@@ -19,6 +20,7 @@ struct Slices {
     places: Vec<i32>,
     levels: Vec<u16>,
     record: Vec<u16>,
+    half_widths: Vec<u16>,
 }
 
 /// Found by its symbol.
@@ -28,6 +30,7 @@ fn pointer_places(table: &[u16], slices: &mut Slices) -> Extent {
     slices.pointers.lay_out::<false>(
         table,
         SEPARATION,
+        &slices.half_widths,
         &mut slices.places,
         &mut slices.levels,
         &mut [],
@@ -41,6 +44,7 @@ fn pointer_record(table: &[u16], slices: &mut Slices) -> Extent {
     slices.pointers.lay_out::<true>(
         table,
         SEPARATION,
+        &slices.half_widths,
         &mut slices.places,
         &mut slices.levels,
         &mut slices.record,
@@ -54,21 +58,26 @@ fn main() {
     };
     let lay_out = match operation.as_str() {
         "places" => pointer_places,
-        "record" => pointer_record,
-        _ => panic!("an operation is places or record"),
+        "record" | "wide" => pointer_record,
+        _ => panic!("an operation is places, record or wide"),
     };
-    let mut random = Random::new(1);
+    let (mut random, mut widths_random) = (Random::new(1), Random::new(2));
     let mut slices = Slices {
         pointers: Pointers::new(1_024),
         places: vec![0; 1_024],
         levels: vec![0; 1_024],
         record: vec![0; 2_048],
+        half_widths: vec![0; 1_024],
     };
     for size in SIZES {
         for (shape, table) in shapes::trees_of_each_shape(size, &mut random) {
             if mode == "cases" {
                 println!("{operation} {shape} {size} {}", table.len() / 2);
             } else {
+                if operation == "wide" {
+                    let nodes = table.len() / 2;
+                    slices.half_widths = some_up_to(MOST_HALF_WIDTH, nodes, &mut widths_random);
+                }
                 black_box(lay_out(black_box(&table), &mut slices));
             }
         }

@@ -6,6 +6,7 @@
 //! are random.
 
 use reference::ffi;
+use reference::half_widths;
 use reference::random::Random;
 use reference::shapes;
 use reference::sheet::{self, Sheet};
@@ -13,7 +14,7 @@ use std::env;
 use std::hint::black_box;
 
 /// Blocks and the most nodes that they hold.
-const SIZES: [(usize, usize); 3] = [(2, 63), (9, 504), (18, 1_024)];
+const SIZES: [(usize, usize); 3] = [(2, 50), (9, 400), (22, 1_024)];
 
 fn random_sheet(nodes: usize, random: &mut Random) -> Sheet {
     let tree = shapes::random(nodes, random);
@@ -21,13 +22,21 @@ fn random_sheet(nodes: usize, random: &mut Random) -> Sheet {
         separation: 5,
         table: shapes::renumbered_at_random(&tree, random),
         tapes: (0..2 * nodes).map(|_| random.word()).collect(),
+        half_widths: half_widths::of_any_kind(nodes, random),
     }
 }
 
 fn read(file: &[u8], nodes: usize) -> u16 {
     let (mut table, mut tapes) = (vec![0; 2 * nodes], vec![0; 2 * nodes]);
-    let (mut n, mut separation) = (0, 0);
-    ffi::read_sheet(file, &mut table, &mut tapes, &mut n, &mut separation)
+    let (mut half_widths, mut n, mut separation) = (vec![0; nodes], 0, 0);
+    ffi::read_sheet(
+        file,
+        &mut table,
+        &mut tapes,
+        &mut half_widths,
+        &mut n,
+        &mut separation,
+    )
 }
 
 fn write(sheet: &Sheet, len: usize) -> u16 {
@@ -36,6 +45,7 @@ fn write(sheet: &Sheet, len: usize) -> u16 {
         &sheet.table,
         sheet.separation,
         &sheet.tapes,
+        &sheet.half_widths,
         &mut out,
         &mut bytes,
     )

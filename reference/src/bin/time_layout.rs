@@ -1,4 +1,5 @@
-//! The time of a layout beside that of the published pointer method, in one run.
+//! The time of a layout beside that of the published pointer method, in one run, with half-widths
+//! 0.
 //!
 //! `time_layout trees` prints one line for each tree: its shape, then each node's parent but the
 //! root's. `time_layout run` prints one line for each tree in that order: its shape, and the
@@ -46,6 +47,7 @@ fn times(table: &[u16]) -> (f64, f64) {
     let (mut places, mut levels) = (vec![0; NODES], vec![0; NODES]);
     let (mut record, mut work) = (vec![0; 2 * NODES], vec![0; 16 * NODES]);
     let mut pointers = Pointers::new(NODES);
+    let half_widths = vec![0; table.len() / 2];
     let (mut layout, mut pointer) = (f64::INFINITY, f64::INFINITY);
     for _ in 0..BATCHES {
         layout = layout.min(batch(|| {
@@ -56,16 +58,16 @@ fn times(table: &[u16]) -> (f64, f64) {
                 work: &mut work,
             };
             let mut fields = Fields::default();
-            assert_eq!(
-                ffi::layout(black_box(table), SEPARATION, &mut lent, &mut fields),
-                0
-            );
+            let (table, half_widths) = (black_box(table), black_box(&half_widths));
+            let number = ffi::layout(table, SEPARATION, half_widths, &mut lent, &mut fields);
+            assert_eq!(number, 0);
             black_box(fields);
         }));
         pointer = pointer.min(batch(|| {
             black_box(pointers.lay_out::<true>(
                 black_box(table),
                 SEPARATION,
+                black_box(&half_widths),
                 &mut places,
                 &mut levels,
                 &mut record,

@@ -10,9 +10,10 @@ use mir.Syntax.{w32}
 use mir.Val.{toZ, ofZ}
 use mir.ValLaws.{toZ-ofZ}
 use Rattle.refusal.specs.After.{granted}
+use Rattle.distance.specs.Needed.{needed}
 use Rattle.rule.specs.Result.{Slices, layoutNumber, placesOf, leastOf, greatestOf}
 use Rattle.layout.specs.Operation.{slices}
-use Rattle.layout.proofs.Answers.{taken, least-small, greatest-small}
+use Rattle.layout.proofs.Answers.{least-fits, greatest-fits}
 use Rattle.exports.proofs.hiwenoka_layout.Statement.{statement}
 use Rattle.exports.proofs.hiwenoka_layout.Tie as tie
 
@@ -24,14 +25,14 @@ stored k x z h e = toZ-ofZ w32 z (record { sfits = subst (λ (y : ℤ). mag y < 
     small zero f = f refl
     small (suc j) f = omega arith
 
-module _ (t : List ℕ) (D : ℕ) (s : Slices) (z : ℤ) where
-  least-stored : z ≡ granted (layoutNumber t D s) (leastOf (placesOf D t)) (pos 0)
-      → toZ w32 (ofZ w32 z) ≡ granted (layoutNumber t D s) (leastOf (placesOf D t)) (pos 0)
-  least-stored = stored (layoutNumber t D s) (leastOf (placesOf D t)) z (λ e. least-small D t (taken t D s e .table) (taken t D s e .small))
+module _ (t : List ℕ) (D : ℕ) (hs : List ℕ) (s : Slices) (z : ℤ) where
+  least-stored : z ≡ granted (layoutNumber t D hs s) (leastOf (placesOf (needed D hs) t)) (pos 0)
+      → toZ w32 (ofZ w32 z) ≡ granted (layoutNumber t D hs s) (leastOf (placesOf (needed D hs) t)) (pos 0)
+  least-stored = stored (layoutNumber t D hs s) (leastOf (placesOf (needed D hs) t)) z (least-fits t D hs s)
 
-  greatest-stored : z ≡ granted (layoutNumber t D s) (greatestOf (placesOf D t)) (pos 0)
-      → toZ w32 (ofZ w32 z) ≡ granted (layoutNumber t D s) (greatestOf (placesOf D t)) (pos 0)
-  greatest-stored = stored (layoutNumber t D s) (greatestOf (placesOf D t)) z (λ e. greatest-small D t (taken t D s e .table) (taken t D s e .small))
+  greatest-stored : z ≡ granted (layoutNumber t D hs s) (greatestOf (placesOf (needed D hs) t)) (pos 0)
+      → toZ w32 (ofZ w32 z) ≡ granted (layoutNumber t D hs s) (greatestOf (placesOf (needed D hs) t)) (pos 0)
+  greatest-stored = stored (layoutNumber t D hs s) (greatestOf (placesOf (needed D hs) t)) z (greatest-fits t D hs s)
 
 layout-requires : tie.Need-layout-requires
 layout-requires c κs = search needs
@@ -50,15 +51,15 @@ same-length-4 c = search needs
 
 returns : tie.Need-returns
 returns c =
-    let a = c .before .before .before .before .before .before .before .before .before .before .before .before .before .before .before .before .args in
+    let a = c .before .before .before .before .before .before .before .before .before .before .before .before .before .before .before .before .before .args in
     let r = c .before .before .before .before .before .before .before .before .layout in
     let lent = slices (a .places .now) (a .levels .now) (a .measured .now) (a .work .now) in
     record {
       number = r .ensures .number;
       nodes = r .ensures .nodes;
       levelCount = r .ensures .levelCount;
-      least = least-stored (a .table .now) (a .separation) lent (r .result .least) (r .ensures .least);
-      greatest = greatest-stored (a .table .now) (a .separation) lent (r .result .greatest) (r .ensures .greatest);
+      least = least-stored (a .table .now) (a .separation) (a .widths .now) lent (r .result .least) (r .ensures .least);
+      greatest = greatest-stored (a .table .now) (a .separation) (a .widths .now) lent (r .result .greatest) (r .ensures .greatest);
       pairs = r .ensures .pairs;
       places = r .ensures .places;
       levels = r .ensures .levels;

@@ -5,12 +5,14 @@ use Prim.Native.Nat.{ℕ, suc, _-_, _≤_}
 use native.Mathlib.Omega.{arith}
 use lib.IntN.{ℤ, pos}
 use lib.ListN.{length}
+use Rattle.distance.specs.Needed.{Distance}
 use Rattle.tree.specs.Table.{nodes}
 use Rattle.tree.specs.Forest.{treeOf}
 use Rattle.tree.proofs.Linked.{Linked}
 use Rattle.tree.proofs.Followed.{accepted-linked}
 use Rattle.level_order.specs.LevelOrder.{firstAt}
 use Rattle.level_order.specs.Fields.{PLACE}
+use Rattle.level_order.specs.Numbered.{apart}
 use Rattle.families.specs.Joining.{Given}
 use Rattle.families.specs.Families.{FamiliesFrom}
 use Rattle.level_order.proofs.Cells.{put-length}
@@ -22,23 +24,23 @@ use Rattle.families.proofs.families.Statement.{statement}
 use Rattle.families.proofs.families.Tie as tie
 
 abbrev Inv-loop : tie.InvT-loop
-Inv-loop table separation work₀ p₀ work p = DrawnFrom table separation p work₀ work
+Inv-loop table separation widths work₀ p₀ work p = DrawnFrom table (apart table separation widths) p work₀ work
 
 abbrev μ-loop : tie.MeasureT-loop
-μ-loop table separation work₀ p₀ work p = p
+μ-loop table separation widths work₀ p₀ work p = p
 
 -- at the function's start
 module _ (s : tie.Start Inv-loop μ-loop) where
   abbrev table : List ℕ
   table = s .args .table .now
 
-  abbrev separation : ℕ
-  separation = s .args .separation
+  abbrev needs : Distance
+  needs = apart table (s .args .separation) (s .args .widths .now)
 
   abbrev before : List ℤ
   before = s .args .work .now
 
-  abbrev given : Given table separation
+  abbrev given : Given table needs
   given = s .pre .0
 
   links : Linked table
@@ -49,8 +51,8 @@ module _ (s : tie.Start Inv-loop μ-loop) where
 
 loop-holds : tie.Need-loop-holds Inv-loop μ-loop
 loop-holds c =
-    let s = c .before in
-    families-start (table s) (separation s) (order s) (s .pre .1 .0) (s .pre .1 .1)
+    let s = c .before .before in
+    families-start (table s) (needs s) (order s) (s .pre .1 .0) (s .pre .1 .1)
 
 sub-p : tie.Need-sub-p Inv-loop μ-loop
 sub-p c = omega (arith, c .loop-test .taken)
@@ -58,13 +60,13 @@ sub-p c = omega (arith, c .loop-test .taken)
 -- in a turn of the loop
 module _ (c : tie.In-loop Inv-loop μ-loop) where
   abbrev start : tie.Start Inv-loop μ-loop
-  start = c .before .before .before
+  start = c .before .before .before .before
 
   abbrev t : List ℕ
   t = table start
 
-  abbrev D : ℕ
-  D = separation start
+  abbrev D : Distance
+  D = needs start
 
   abbrev p : ℕ
   p = c .before .loop .p
@@ -137,7 +139,7 @@ loop-again-2 c =
 -- after the loop
 module _ (c : tie.After-put-arg Inv-loop μ-loop) where
   abbrev begun : tie.Start Inv-loop μ-loop
-  begun = c .before .before .before .before
+  begun = c .before .before .before .before .before
 
   abbrev all-drawn : List ℤ
   all-drawn = c .before .before .loop .work
@@ -145,8 +147,8 @@ module _ (c : tie.After-put-arg Inv-loop μ-loop) where
   done : c .before .before .loop .p ≡ 0
   done = omega (arith, c .before .loop-test .left)
 
-  ended : DrawnFrom (table begun) (separation begun) 0 (before begun) all-drawn
-  ended = subst (λ (k : ℕ). DrawnFrom (table begun) (separation begun) k (before begun) all-drawn) done (c .before .before .loop .inv)
+  ended : DrawnFrom (table begun) (needs begun) 0 (before begun) all-drawn
+  ended = subst (λ (k : ℕ). DrawnFrom (table begun) (needs begun) k (before begun) all-drawn) done (c .before .before .loop .inv)
 
 put-requires : tie.Need-put-requires Inv-loop μ-loop
 put-requires c κs = omega (arith, ended c .numbered .size, links (begun c) .some)
@@ -159,8 +161,8 @@ same-length c =
 returns : tie.Need-returns Inv-loop μ-loop
 returns c =
     let a = c .before .before in
-    subst (FamiliesFrom (table (begun a)) (separation (begun a)) (before (begun a))) (sym (c .before .put .ensures))
-    (families-end (table (begun a)) (separation (begun a)) (order (begun a)) (links (begun a) .some) (ended a))
+    subst (FamiliesFrom (table (begun a)) (needs (begun a)) (before (begun a))) (sym (c .before .put .ensures))
+    (families-end (table (begun a)) (needs (begun a)) (order (begun a)) (links (begun a) .some) (ended a))
 
 pub families-spec : {M : Type 1} → statement M
 families-spec =

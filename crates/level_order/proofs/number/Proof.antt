@@ -1,10 +1,12 @@
 -- `layout::number::number` meets its contract. The measure is how many positions are left. Assumes nothing.
-use mathlib.Core.Path.{_≡_, ap, _∙_}
+use mathlib.Core.Path.{_≡_, refl, ap, _∙_}
 use mathlib.Core.List.{List}
-use Prim.Native.Nat.{ℕ, _+_, _-_, _*_, _≤_, _<_}
+use Prim.Native.Nat.{ℕ, zero, suc, _+_, _-_, _*_, _≤_, _<_}
+use native.Mathlib.Numerals.{add-one}
 use native.Mathlib.Omega.{arith}
 use lib.IntN.{ℤ, pos, natAbs}
 use lib.ListN.{length}
+use Rattle.distance.specs.Needed.{halfWidth}
 use Rattle.tree.specs.Table.{nodes}
 use Rattle.tree.specs.Forest.{treeOf}
 use Rattle.tree.specs.Levels.{childrenOf}
@@ -13,18 +15,20 @@ use Rattle.tree.proofs.Linked.{Linked}
 use Rattle.tree.proofs.Followed.{accepted-linked}
 use Rattle.level_order.specs.LevelOrder.{nodeAt}
 use Rattle.level_order.specs.Appending.{queued, Appended}
+use Rattle.level_order.specs.Numbered.{Accepted}
 use Rattle.level_order.proofs.Signed32.{stored, unsigned, unsigned-fits}
 use Rattle.level_order.proofs.Queued.{queued-length, appended-length}
 use Rattle.level_order.proofs.Numbering.{Numbering}
-use Rattle.level_order.proofs.TableNumbering.{table-start, table-end, table-node, node-inside, table-room, table-turn}
+use Rattle.level_order.proofs.TableNumbering.{half, reachOf, need, table-start, table-end, table-node, node-inside, table-room, table-turn}
 use Rattle.level_order.proofs.number.Statement.{statement}
 use Rattle.level_order.proofs.number.Tie as tie
 
 abbrev Inv-loop : tie.InvT-loop
-Inv-loop table work₀ n tail₀ p₀ work tail p = Numbering (treeOf table) (nodes table) work₀ work p tail
+Inv-loop table separation widths work₀ n tail₀ reach₀ p₀ work tail reach p =
+    Numbering (treeOf table) (need table separation widths) (nodes table) work₀ work p tail × (reach ≡ reachOf table separation widths p)
 
 abbrev μ-loop : tie.MeasureT-loop
-μ-loop table work₀ n tail₀ p₀ work tail p = nodes table - p
+μ-loop table separation widths work₀ n tail₀ reach₀ p₀ work tail reach p = nodes table - p
 
 -- at the function's start
 module _ (s : tie.Start Inv-loop μ-loop) where
@@ -34,8 +38,17 @@ module _ (s : tie.Start Inv-loop μ-loop) where
   abbrev before : List ℤ
   before = s .args .work .now
 
+  abbrev separation : ℕ
+  separation = s .args .separation
+
+  abbrev widths : List ℕ
+  widths = s .args .widths .now
+
+  given : Accepted table separation widths
+  given = s .pre .0
+
   accepted : tableNumber table ≡ 0
-  accepted = s .pre .0
+  accepted = given .accepted
 
   room : 16 * nodes table ≤ length before
   room = s .pre .1
@@ -45,13 +58,13 @@ module _ (s : tie.Start Inv-loop μ-loop) where
 
 queue-requires : tie.Need-queue-requires Inv-loop μ-loop
 queue-requires c κs =
-    let s = c .before .before in
+    let s = c .before .before .before in
     ((omega arith, omega arith), omega (arith, room s, links s .some))
 
 -- once the root is queued
 module _ (c : tie.After-work Inv-loop μ-loop) where
   abbrev start : tie.Start Inv-loop μ-loop
-  start = c .before .before .before .before
+  start = c .before .before .before .before .before
 
   abbrev rooted : List ℤ
   rooted = c .before .queue .last .0
@@ -63,7 +76,8 @@ module _ (c : tie.After-work Inv-loop μ-loop) where
   rooted-room = omega (arith, room start, ap length root-queued, queued-length (before start) 0 0 0)
 
 loop-holds : tie.Need-loop-holds Inv-loop μ-loop
-loop-holds c = table-start (table (start c)) (accepted (start c)) (before (start c)) (rooted c) (root-queued c) (room (start c))
+loop-holds c =
+    (table-start (table (start c)) (separation (start c)) (widths (start c)) (accepted (start c)) (before (start c)) (rooted c) (root-queued c) (room (start c)), refl)
 
 -- in a turn of the loop
 module _ (c : tie.In-loop Inv-loop μ-loop) where
@@ -82,8 +96,17 @@ module _ (c : tie.In-loop Inv-loop μ-loop) where
   abbrev work : List ℤ
   work = c .before .loop .work
 
-  abbrev numbering : Numbering (treeOf t) (nodes t) (rooted after) work p tail
-  numbering = c .before .loop .inv
+  abbrev D : ℕ
+  D = separation (start after)
+
+  abbrev hs : List ℕ
+  hs = widths (start after)
+
+  abbrev numbering : Numbering (treeOf t) (need t D hs) (nodes t) (rooted after) work p tail
+  numbering = c .before .loop .inv .0
+
+  reached : c .before .loop .reach ≡ reachOf t D hs p
+  reached = c .before .loop .inv .1
 
   more : p < nodes t
   more = c .loop-test .taken
@@ -98,7 +121,7 @@ module _ (c : tie.In-loop Inv-loop μ-loop) where
   ok = accepted (start after)
 
   inside : nodeAt (treeOf t) p < nodes t
-  inside = node-inside t ok numbering (rooted-room after) more
+  inside = node-inside t D hs ok numbering (rooted-room after) more
 
 get-requires : tie.Need-get-requires Inv-loop μ-loop
 get-requires c κs = omega (arith, more (c .before), long (c .before))
@@ -109,7 +132,7 @@ module _ (c : tie.After-get Inv-loop μ-loop) where
   turn = c .before .before
 
   node-read : c .get .result ≡ pos (nodeAt (treeOf (t turn)) (p turn))
-  node-read = c .get .ensures ∙ table-node (t turn) (ok turn) (numbering turn) (rooted-room (after turn)) (more turn)
+  node-read = c .get .ensures ∙ table-node (t turn) (D turn) (hs turn) (ok turn) (numbering turn) (rooted-room (after turn)) (more turn)
 
   small : nodeAt (treeOf (t turn)) (p turn) < 2147483648
   small = omega (arith, inside turn, few turn)
@@ -125,7 +148,7 @@ module _ (c : tie.After-get Inv-loop μ-loop) where
       omega (
         arith,
         ap (λ (x : ℕ). length (childrenOf (t turn) x)) node-cast,
-        table-room (t turn) (ok turn) (numbering turn) (rooted-room (after turn)) (more turn),
+        table-room (t turn) (D turn) (hs turn) (ok turn) (numbering turn) (rooted-room (after turn)) (more turn),
       )
 
 cast-v : tie.Need-cast-v Inv-loop μ-loop
@@ -163,12 +186,50 @@ module _ (c : tie.After-append Inv-loop μ-loop) where
         appended-length (work (turn read)) (p (turn read)) (tail (turn read)) (childrenOf (t (turn read)) (v read)),
       )
 
+mul-half : tie.Need-mul-half Inv-loop μ-loop
+mul-half c =
+    let g = read (c .before) in
+    let q = turn g in
+    omega (arith, node-cast g, inside q, few q)
+
+shared-slice-read-half : tie.Need-shared-slice-read-half Inv-loop μ-loop
+shared-slice-read-half c =
+    let g = read (c .before .before) in
+    let q = turn g in
+    omega (arith, node-cast g, inside q, given (start (after q)) .each)
+
 sub-settle : tie.Need-sub-settle Inv-loop μ-loop
-sub-settle c = omega (arith, ends (c .before .before))
+sub-settle c = omega (arith, ends (c .before .before .before))
+
+-- what the position needs
+module _ (a : tie.After-append Inv-loop μ-loop) where
+  abbrev here : ℕ
+  here = halfWidth (hs (turn (read a))) (v (read a))
+
+  half-read : here ≡ half (t (turn (read a))) (D (turn (read a))) (hs (turn (read a))) (p (turn (read a)))
+  half-read = ap (halfWidth (hs (turn (read a)))) (node-cast (read a))
+
+  half-small : here ≤ 256
+  half-small = given (start (after (turn (read a)))) .narrow (v (read a))
+
+  high : D (turn (read a)) ≤ 1024
+  high = given (start (after (turn (read a)))) .high
+
+  reach-small : turn (read a) .before .loop .reach ≤ 1280
+  reach-small = omega (arith, reached (turn (read a)), small-reach (p (turn (read a))))
+    where
+      small-reach : (q : ℕ) → reachOf (t (turn (read a))) (D (turn (read a))) (hs (turn (read a))) q ≤ 1280
+      small-reach zero = omega (arith, high)
+      small-reach (suc q) = omega (arith, high, given (start (after (turn (read a)))) .narrow (nodeAt (treeOf (t (turn (read a)))) q))
+
+add-settle : tie.Need-add-settle Inv-loop μ-loop
+add-settle c =
+    let a = c .before .before .before in
+    omega (arith, half-small a, reach-small a)
 
 settle-requires : tie.Need-settle-requires Inv-loop μ-loop
 settle-requires c κs =
-    let a = c .before .before in
+    let a = c .before .before .before in
     let g = read a in
     let q = turn g in (
       (
@@ -181,7 +242,12 @@ settle-requires c κs =
 
 -- past the call of `settle`
 abbrev queued-at : tie.After-work3 Inv-loop μ-loop → tie.After-append Inv-loop μ-loop
-queued-at c = c .before .before .before .before
+queued-at c = c .before .before .before .before .before
+
+add-reach : tie.Need-add-reach Inv-loop μ-loop
+add-reach c =
+    let a = queued-at c in
+    omega (arith, half-small a, high a)
 
 add-p : tie.Need-add-p Inv-loop μ-loop
 add-p c =
@@ -197,18 +263,21 @@ loop-again : tie.Need-loop-again Inv-loop μ-loop
 loop-again c =
     let a = queued-at c in
     let g = read a in
-    let q = turn g in
-    table-turn (t q) (ok q) (numbering q) (rooted-room (after q)) (more q) (node-cast g) (children-queued a) (c .before .settle .ensures)
+    let q = turn g in (
+      table-turn (t q) (D q) (hs q) (ok q) (numbering q) (rooted-room (after q)) (more q) (node-cast g) (children-queued a)
+          (omega (arith, reached q, half-read a)) (c .before .settle .ensures),
+      rw add-one (omega (arith, half-read a)),
+    )
 
 same-length : tie.Need-same-length Inv-loop μ-loop
 same-length c =
     let s = c .before .before in
-    omega (arith, c .before .loop .inv .size, ap length (root-queued s), queued-length (before (start s)) 0 0 0)
+    omega (arith, c .before .loop .inv .0 .size, ap length (root-queued s), queued-length (before (start s)) 0 0 0)
 
 returns : tie.Need-returns Inv-loop μ-loop
 returns c =
     let s = c .before .before in
-    table-end (table (start s)) (accepted (start s)) (before (start s)) (rooted s) (root-queued s) (room (start s)) (c .before .loop .inv) (c .loop-test .left)
+    table-end (table (start s)) (separation (start s)) (widths (start s)) (accepted (start s)) (before (start s)) (rooted s) (root-queued s) (room (start s)) (c .before .loop .inv .0) (c .loop-test .left)
 
 pub number-spec : {M : Type 1} → statement M
 number-spec =
@@ -221,8 +290,12 @@ number-spec =
     get-requires
     cast-v
     append-requires
+    mul-half
+    shared-slice-read-half
     sub-settle
+    add-settle
     settle-requires
+    add-reach
     add-p
     loop-less
     loop-again

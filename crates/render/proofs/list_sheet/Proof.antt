@@ -23,6 +23,9 @@ slice-aggregate-read-sheet c = search needs
 slice-aggregate-read-sheet-2 : tie.Need-slice-aggregate-read-sheet-2
 slice-aggregate-read-sheet-2 c = search needs
 
+slice-aggregate-read-sheet-3 : tie.Need-slice-aggregate-read-sheet-3
+slice-aggregate-read-sheet-3 c = search needs
+
 read-sheet-requires : tie.Need-read-sheet-requires
 read-sheet-requires c κs = search needs
 
@@ -34,7 +37,7 @@ same-length c = search needs
 
 module _ (c : tie.After-read-sheet) where
   abbrev start : tie.Start
-  start = c .before .before .before .before .before .before
+  start = c .before .before .before .before .before .before .before
 
   abbrev file : List ℕ
   file = start .args .file .now
@@ -49,32 +52,44 @@ module _ (c : tie.After-read-sheet) where
   abbrev tapes : List ℕ
   tapes = c .read-sheet .last .1 .1 .0
 
+  abbrev wide : List ℕ
+  wide = replicate 1024 0
+
+  abbrev widths : List ℕ
+  widths = c .read-sheet .last .1 .1 .1 .0
+
   room : textRoom ≤ length (start .args .out .now)
-  room = c .before .before .before .if1 .left
+  room = c .before .before .before .before .if1 .left
 
   long : 2048 ≤ length lent
   long = omega arith
 
-  sheet-read : SheetRead file lent lent (c .read-sheet .result) table tapes
+  enough : 1024 ≤ length wide
+  enough = omega arith
+
+  sheet-read : SheetRead file lent lent wide (c .read-sheet .result) table tapes widths
   sheet-read = c .read-sheet .ensures
 
 returns-2 : tie.Need-returns-2
 returns-2 c =
-    let r = c .before .before .before .before .before .before .before .before in
-    with-room (room r) (refused-sheet (file r) (lent r) (lent r) (table r) (tapes r) (r .read-sheet .result) (long r) (long r) (sheet-read r) (room r)
+    let r = c .before .before .before .before .before .before .before .before .before in
+    with-room (room r) (refused-sheet (file r) (lent r) (lent r) (wide r) (table r) (tapes r) (widths r) (r .read-sheet .result) (long r) (long r) (enough r) (sheet-read r) (room r)
     (c .before .before .before .before .if2 .taken) (c .before .before .write-refusal .ensures))
 
 -- past the refusal
 module _ (p : tie.Else2) where
   abbrev read : tie.After-read-sheet
-  read = p .before .before .before .before
+  read = p .before .before .before .before .before
+
+  abbrev n : ℕ
+  n = read .read-sheet .result .nodes
 
   abbrev entries : ℕ
-  entries = 2 * read .read-sheet .result .nodes
+  entries = 2 * n
 
   few : read .read-sheet .result .nodes ≤ 1024
   few =
-      nodes-few (file read) (lent read) (lent read) (table read) (tapes read) (read .read-sheet .result) (long read) (long read) (sheet-read read)
+      nodes-few (file read) (lent read) (lent read) (wide read) (table read) (tapes read) (widths read) (read .read-sheet .result) (long read) (long read) (enough read) (sheet-read read)
       (p .if2 .left)
 
   table-holds : entries ≤ length (table read)
@@ -83,8 +98,11 @@ module _ (p : tie.Else2) where
   tapes-hold : entries ≤ length (tapes read)
   tapes-hold = omega (arith, few, read .read-sheet .kept)
 
-cast-entries : tie.Need-cast-entries
-cast-entries c = search needs
+  widths-hold : n ≤ length (widths read)
+  widths-hold = omega (arith, few, read .read-sheet .kept)
+
+cast-n : tie.Need-cast-n
+cast-n c = search needs
 
 mul-entries : tie.Need-mul-entries
 mul-entries c = search needs
@@ -101,13 +119,19 @@ array-share-prefix-tapes c = tapes-hold (c .before .before)
 slice-aggregate-list-table-2 : tie.Need-slice-aggregate-list-table-2
 slice-aggregate-list-table-2 c = sym (length-take-le _ _ (tapes-hold (c .before .before .before)))
 
+array-share-prefix-widths : tie.Need-array-share-prefix-widths
+array-share-prefix-widths c = widths-hold (c .before .before .before)
+
+slice-aggregate-list-table-3 : tie.Need-slice-aggregate-list-table-3
+slice-aggregate-list-table-3 c = sym (length-take-le _ _ (widths-hold (c .before .before .before .before)))
+
 list-table-requires : tie.Need-list-table-requires
 list-table-requires c κs =
-    let p = c .before .before .before .before in
+    let p = c .before .before .before .before .before in
     let r = read p in (
-      separation-some (file r) (lent r) (lent r) (table r) (tapes r) (r .read-sheet .result) (long r) (long r) (sheet-read r) (p .if2 .left),
+      separation-some (file r) (lent r) (lent r) (wide r) (table r) (tapes r) (widths r) (r .read-sheet .result) (long r) (long r) (enough r) (sheet-read r) (p .if2 .left),
       (
-        separation-small (file r) (lent r) (lent r) (table r) (tapes r) (r .read-sheet .result) (long r) (long r) (sheet-read r) (p .if2 .left),
+        separation-small (file r) (lent r) (lent r) (wide r) (table r) (tapes r) (widths r) (r .read-sheet .result) (long r) (long r) (enough r) (sheet-read r) (p .if2 .left),
         (omega (arith, length-take-le (entries p) (table r) (table-holds p), length-take-le (entries p) (tapes r) (tapes-hold p)), room r),
       ),
     )
@@ -117,9 +141,9 @@ same-length-2 c = search needs
 
 returns-3 : tie.Need-returns-3
 returns-3 c =
-    let p = c .before .before .before .before .before .before .before in
+    let p = c .before .before .before .before .before .before .before .before in
     let r = read p in
-    with-room (room r) (sheet-listed (file r) (lent r) (lent r) (table r) (tapes r) (r .read-sheet .result) (long r) (long r) (sheet-read r) (p .if2 .left)
+    with-room (room r) (sheet-listed (file r) (lent r) (lent r) (wide r) (table r) (tapes r) (widths r) (r .read-sheet .result) (long r) (long r) (enough r) (sheet-read r) (p .if2 .left)
     (c .before .before .list-table .ensures))
 
 pub list-sheet-spec : {M : Type 1} → statement M
@@ -129,16 +153,19 @@ list-sheet-spec =
     returns
     slice-aggregate-read-sheet
     slice-aggregate-read-sheet-2
+    slice-aggregate-read-sheet-3
     read-sheet-requires
     write-refusal-requires
     same-length
     returns-2
-    cast-entries
+    cast-n
     mul-entries
     array-share-prefix-table
     slice-aggregate-list-table
     array-share-prefix-tapes
     slice-aggregate-list-table-2
+    array-share-prefix-widths
+    slice-aggregate-list-table-3
     list-table-requires
     same-length-2
     returns-3)

@@ -31,7 +31,7 @@ layout-requires c κs = search needs
 
 module _ (c : tie.After-layout) where
   abbrev start : tie.Start
-  start = c .before .before .before .before .before .before .before .before
+  start = c .before .before .before .before .before .before .before .before .before
 
   abbrev t : List ℕ
   t = start .args .table .now
@@ -42,26 +42,29 @@ module _ (c : tie.After-layout) where
   abbrev tapes : List ℕ
   tapes = start .args .tapes .now
 
+  abbrev hs : List ℕ
+  hs = start .args .widths .now
+
   -- the arrays as they are lent and as they come back, and the layout's answer
   abbrev lent : Slices
   lent = slices (replicate 1024 (pos 0)) (replicate 1024 0) (replicate 2048 0) (replicate 16384 (pos 0))
 
   abbrev back : Slices
-  back = slices (c .layout .last .1 .1 .0) (c .layout .last .1 .1 .1 .0) (c .layout .last .1 .1 .1 .1 .0) (c .layout .last .1 .1 .1 .1 .1 .0)
+  back = slices (c .layout .last .1 .1 .1 .0) (c .layout .last .1 .1 .1 .1 .0) (c .layout .last .1 .1 .1 .1 .1 .0) (c .layout .last .1 .1 .1 .1 .1 .1 .0)
 
   abbrev drawn : Answer
   drawn =
       let r = c .layout .result in
       answer (r .number) (r .nodes) (r .levels) (r .least) (r .greatest) (r .pairs)
 
-  laid-out : Layout t D lent drawn back
+  laid-out : Layout t D hs lent drawn back
   laid-out = c .layout .ensures
 
   ample : Ample lent
   ample = record { places = omega arith; levels = omega arith; measured = omega arith; work = omega arith }
 
   few-nodes : c .layout .result .number ≡ 0 → c .layout .result .nodes ≤ 1024
-  few-nodes = few t D (start .pre .0) (start .pre .1 .0) tapes lent back drawn laid-out ample
+  few-nodes = few t D (start .pre .0) (start .pre .1 .0) tapes hs lent back drawn laid-out ample
 
 write-refusal-requires : tie.Need-write-refusal-requires
 write-refusal-requires c κs = search needs
@@ -72,7 +75,7 @@ same-length c = search needs
 returns : tie.Need-returns
 returns c =
     let l = c .before .before .before .before .before .before .before .before .before .before in
-    refused-listed (t l) (D l) (start l .pre .0) (start l .pre .1 .0) (tapes l) (lent l) (back l) (drawn l) (laid-out l) (ample l) (start l .pre .1 .1 .1)
+    refused-listed (t l) (D l) (start l .pre .0) (start l .pre .1 .0) (tapes l) (hs l) (lent l) (back l) (drawn l) (laid-out l) (ample l) (start l .pre .1 .1 .1)
     (c .before .before .before .before .if1 .taken) (c .before .before .write-refusal .ensures)
 
 cast-n : tie.Need-cast-n
@@ -113,7 +116,7 @@ same-length-2 c = search needs
 returns-2 : tie.Need-returns-2
 returns-2 c =
     let l = c .before .before .before .before .before .before .before .before .before .before .before .before .before .before .before in
-    accepted-listed (t l) (D l) (start l .pre .0) (start l .pre .1 .0) (tapes l) (lent l) (back l) (drawn l) (laid-out l) (ample l)
+    accepted-listed (t l) (D l) (start l .pre .0) (start l .pre .1 .0) (tapes l) (hs l) (lent l) (back l) (drawn l) (laid-out l) (ample l)
     (c .before .before .before .before .before .before .before .before .before .if1 .left)
     (start l .pre .1 .1 .1) (start l .pre .1 .1 .0) (c .before .before .write-listing .ensures)
 

@@ -6,9 +6,12 @@ use native.Mathlib.Omega.{arith}
 use lib.IntN.{natAbs}
 use mir.Syntax.{w32}
 use mir.Val.{toZ, ofZ}
+use Rattle.distance.specs.Needed.{Distance, needed}
 use Rattle.tree.specs.Table.{nodes}
 use Rattle.tree.specs.WellFormed.{tableNumber}
 use Rattle.tree.proofs.Stands.{accepted-numbers}
+use Rattle.level_order.specs.Numbered.{Accepted}
+use Rattle.level_order.proofs.Fielded.{accepted-most}
 use Rattle.level_order.proofs.Signed32.{told}
 use Rattle.second_walk.specs.SecondWalk.{Ready, Lengths, Seen}
 use Rattle.second_walk.proofs.Positions.{numberAt, levelAt}
@@ -19,11 +22,11 @@ use Rattle.second_walk.proofs.second_walk.Statement.{statement}
 use Rattle.second_walk.proofs.second_walk.Tie as tie
 
 abbrev Inv-loop : tie.InvT-loop
-Inv-loop table separation places₀ levels₀ measured₀ work₀ n least₀ greatest₀ pairs₀ p₀ places levels measured work least greatest pairs p =
-    Settling table separation measured₀ work₀ places levels measured work (toZ w32 least) (toZ w32 greatest) pairs p
+Inv-loop table separation widths places₀ levels₀ measured₀ work₀ n least₀ greatest₀ pairs₀ p₀ places levels measured work least greatest pairs p =
+    Settling table (needed separation widths) measured₀ work₀ places levels measured work (toZ w32 least) (toZ w32 greatest) pairs p
 
 abbrev μ-loop : tie.MeasureT-loop
-μ-loop table separation places₀ levels₀ measured₀ work₀ n least₀ greatest₀ pairs₀ p₀ places levels measured work least greatest pairs p = n - p
+μ-loop table separation widths places₀ levels₀ measured₀ work₀ n least₀ greatest₀ pairs₀ p₀ places levels measured work least greatest pairs p = n - p
 
 -- ---- what is given
 
@@ -31,43 +34,46 @@ module _ (s : tie.Start Inv-loop μ-loop) where
   abbrev t : List ℕ
   t = s .args .table .now
 
-  abbrev D : ℕ
-  D = s .args .separation
+  abbrev D : Distance
+  D = needed (s .args .separation) (s .args .widths .now)
+
+  abbrev given : Accepted t (s .args .separation) (s .args .widths .now)
+  given = s .pre .0
 
   abbrev accepted : tableNumber t ≡ 0
-  accepted = s .pre .0
+  accepted = given .accepted
 
-  abbrev small : D ≤ 1024
-  small = s .pre .1 .0
+  small : (a b : ℕ) → D a b ≤ 1536
+  small = accepted-most given
 
   abbrev lengths : Lengths t (s .args .places .now) (s .args .levels .now) (s .args .measured .now)
-  lengths = s .pre .1 .1 .0
+  lengths = s .pre .1 .0
 
   abbrev ready : Ready D t (s .args .work .now)
-  ready = s .pre .1 .1 .1
+  ready = s .pre .1 .1
 
   some : 0 < nodes t
   some = accepted-numbers t accepted .some
 
 slice-set-of-places : tie.Need-slice-set-of-places Inv-loop μ-loop
-slice-set-of-places c = omega (arith, lengths (c .before .before .before) .places, some (c .before .before .before))
+slice-set-of-places c = omega (arith, lengths (c .before .before .before .before) .places, some (c .before .before .before .before))
 
 slice-write-levels : tie.Need-slice-write-levels Inv-loop μ-loop
-slice-write-levels c = omega (arith, lengths (c .before .before .before) .levels, some (c .before .before .before))
+slice-write-levels c = omega (arith, lengths (c .before .before .before .before) .levels, some (c .before .before .before .before))
 
 put-requires : tie.Need-put-requires Inv-loop μ-loop
-put-requires c κs = omega (arith, ready (c .before .before .before .before) .size, some (c .before .before .before .before))
+put-requires c κs = omega (arith, ready (c .before .before .before .before .before) .size, some (c .before .before .before .before .before))
 
 -- ---- the loop
 
 loop-holds : tie.Need-loop-holds Inv-loop μ-loop
 loop-holds c =
-    let s = c .before .before .before .before .before .before in
+    let s = c .before .before .before .before .before .before .before in
     settle-start (accepted s) (small s) (lengths s) (ready s) (c .before .put .ensures)
 
 module _ (a : tie.At-loop Inv-loop μ-loop) where
   abbrev start : tie.Start Inv-loop μ-loop
-  start = a .before .before .before .before .before .before .before
+  start = a .before .before .before .before .before .before .before .before
 
   abbrev S : Settling (t start) (D start) (start .args .measured .now) (a .before .before .put .last .0) (a .loop .places) (a .loop .levels) (a .loop .measured) (a .loop .work)
       (toZ w32 (a .loop .least)) (toZ w32 (a .loop .greatest)) (a .loop .pairs) (a .loop .p)
@@ -159,11 +165,11 @@ module _ (c : tie.After-get2 Inv-loop μ-loop) where
 cast-last : tie.Need-cast-last Inv-loop μ-loop
 cast-last c = level-fits (last c) (c .get2 .ensures)
 
-add-t40 : tie.Need-add-t40 Inv-loop μ-loop
-add-t40 c = omega (arith, deepest-number c, last c .near)
+add-t41 : tie.Need-add-t41 Inv-loop μ-loop
+add-t41 c = omega (arith, deepest-number c, last c .near)
 
-cast-t41 : tie.Need-cast-t41 Inv-loop μ-loop
-cast-t41 c = omega (arith, settle-few (S (end c)))
+cast-t42 : tie.Need-cast-t42 Inv-loop μ-loop
+cast-t42 c = omega (arith, settle-few (S (end c)))
 
 same-length : tie.Need-same-length Inv-loop μ-loop
 same-length c = S (end c) .places .size ∙ sym (lengths (start (end c)) .places)
@@ -203,8 +209,8 @@ second-walk-spec =
     sub-get
     get-requires-2
     cast-last
-    add-t40
-    cast-t41
+    add-t41
+    cast-t42
     same-length
     same-length-2
     same-length-3

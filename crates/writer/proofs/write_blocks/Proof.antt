@@ -19,11 +19,11 @@ use Rattle.writer.proofs.write_blocks.Statement.{statement}
 use Rattle.writer.proofs.write_blocks.Tie as tie
 
 abbrev Inv-loop : tie.InvT-loop
-Inv-loop table separation tapes out₀ n at₀ out at =
-    (OnRow at) × (Whole (nodes table) (at .node)) × (out ≡ overwrite (front (nodes table) separation table tapes (blocksFor (at .node))) out₀)
+Inv-loop table separation tapes widths out₀ n at₀ out at =
+    (OnRow at) × (Whole (nodes table) (at .node)) × (out ≡ overwrite (front (nodes table) separation table tapes widths (blocksFor (at .node))) out₀)
 
 abbrev μ-loop : tie.MeasureT-loop
-μ-loop table separation tapes out₀ n at₀ out at = nodes table - at .node
+μ-loop table separation tapes widths out₀ n at₀ out at = nodes table - at .node
 
 -- what is known of the parameters
 module _ (s : tie.Start Inv-loop μ-loop) where
@@ -36,11 +36,18 @@ module _ (s : tie.Start Inv-loop μ-loop) where
   abbrev tapes : List ℕ
   tapes = s .args .tapes .now
 
+  abbrev widths : List ℕ
+  widths = s .args .widths .now
+
   abbrev old : List ℕ
   old = s .args .out .now
 
   abbrev n : ℕ
   n = nodes table
+
+  -- the first blocks of the file
+  abbrev blocks : ℕ → List ℕ
+  blocks count = front n D table tapes widths count
 
   few : n ≤ 1024
   few = accepted-numbers table (s .pre .0) .few
@@ -49,12 +56,12 @@ module _ (s : tie.Start Inv-loop μ-loop) where
   even = accepted-length table (s .pre .0)
 
   room : blockBytes * blocksFor n ≤ length old
-  room = omega (arith, length-file n D table tapes)
+  room = omega (arith, length-file n D table tapes widths)
 
 -- at the loop's head
 module _ (h : tie.At-loop Inv-loop μ-loop) where
   abbrev start : tie.Start Inv-loop μ-loop
-  start = h .before .before .before .before .before .before .before .before .before
+  start = h .before .before .before .before .before .before .before .before .before .before
 
   abbrev begun : List ℕ
   begun = h .before .before .before .before .write-header .last .0
@@ -65,7 +72,8 @@ module _ (h : tie.At-loop Inv-loop μ-loop) where
   same-size : length (h .loop .out) ≡ length (old start)
   same-size =
       ap length (h .loop .inv .2)
-      ∙ length-written (n start) (D start) (table start) (tapes start) (blocksFor (h .loop .at .node)) begun (omega (arith, room start, header-size))
+      ∙ length-written (n start) (D start) (table start) (tapes start) (widths start) (blocksFor (h .loop .at .node)) begun
+      (omega (arith, room start, header-size))
       ∙ header-size
 
   -- where a node is left, its block begins with it
@@ -76,25 +84,27 @@ module _ (h : tie.At-loop Inv-loop μ-loop) where
     place : h .loop .at .block ≡ blocksFor (h .loop .at .node)
     place = h .loop .inv .0 .block ∙ sym (place-begun _ _ (h .loop .inv .1) left)
 
-    front-written : h .loop .out ≡ overwrite (front (n start) (D start) (table start) (tapes start) (h .loop .at .block)) begun
-    front-written = h .loop .inv .2 ∙ ap (λ (count : ℕ). overwrite (front (n start) (D start) (table start) (tapes start) count) begun) (sym place)
+    front-written : h .loop .out ≡ overwrite (blocks start (h .loop .at .block)) begun
+    front-written = h .loop .inv .2 ∙ ap (λ (count : ℕ). overwrite (blocks start count) begun) (sym place)
 
     within : blockBytes * h .loop .at .block + blockBytes ≤ length (h .loop .out)
     within = omega (arith, room start, same-size, place, first)
 
 write-header-requires : tie.Need-write-header-requires Inv-loop μ-loop
-write-header-requires c κs = (omega (arith, few (c .before .before .before .before)), omega (arith, room (c .before .before .before .before)))
+write-header-requires c κs =
+    let s = c .before .before .before .before .before in
+    (omega (arith, few s), omega (arith, room s))
 
 first-row-requires : tie.Need-first-row-requires Inv-loop μ-loop
 first-row-requires c κs = tt
 
 loop-holds : tie.Need-loop-holds Inv-loop μ-loop
 loop-holds c =
-    let s = c .before .before .before .before .before .before .before .before in
+    let s = c .before .before .before .before .before .before .before .before .before in
     let first = c .first-row .ensures in (
       first .1,
       rw (first .0) (omega arith),
-      rw (first .0) (blocks-begun (n s) (D s) (table s) (tapes s) (old s) _ (c .before .before .before .write-header .ensures)),
+      rw (first .0) (blocks-begun (n s) (D s) (table s) (tapes s) (widths s) (old s) _ (c .before .before .before .write-header .ensures)),
     )
 
 mul-start : tie.Need-mul-start Inv-loop μ-loop
@@ -128,7 +138,8 @@ write-block-requires c κs =
         left = turn .if1 .taken;
         few = omega (arith, few s);
         in-table = omega (arith, even s);
-        in-tapes = s .pre .1 .0;
+        in-tapes = s .pre .1 .0 .0;
+        in-half-widths = s .pre .1 .0 .1;
       },
       omega (arith, within head (turn .if1 .taken), mid-len (blockBytes * head .loop .at .block) (length (head .loop .out)) (head .loop .out) (le-refl _)),
     )
@@ -155,8 +166,8 @@ loop-again c =
       past .on-row,
       whole-ended _ _ _ _ start-of-block left (past .node),
       rw next
-          (block-more (n s) (D s) (table s) (tapes s) (head .loop .at .block - 1) (head .loop .at .block) (head .loop .at .node) _ (head .loop .out) _
-          (omega (arith, place head left)) start-of-block (omega (arith, within head left, same-size head, header-size head)) (front-written head left)
+          (block-more (n s) (D s) (table s) (tapes s) (widths s) (head .loop .at .block - 1) (head .loop .at .block) (head .loop .at .node) _
+          (head .loop .out) _ (omega (arith, place head left)) start-of-block (omega (arith, within head left, same-size head, header-size head)) (front-written head left)
           (written .write-block .ensures .1)),
     )
 
@@ -176,8 +187,10 @@ returns c =
     let s = start head in
     let all : blocksFor (head .loop .at .node) ≡ blocksFor (n s) = omega arith in
     record {
-      count = omega (arith, c .blocks-for .ensures, length-file (n s) (D s) (table s) (tapes s));
-      out-after = blocks-ended (n s) (D s) (table s) (tapes s) _ (old s) _ _ all (head .before .before .before .before .write-header .ensures) (head .loop .inv .2);
+      count = omega (arith, c .blocks-for .ensures, length-file (n s) (D s) (table s) (tapes s) (widths s));
+      out-after =
+          blocks-ended (n s) (D s) (table s) (tapes s) (widths s) _ (old s) _ _ all (head .before .before .before .before .write-header .ensures)
+          (head .loop .inv .2);
     }
 
 pub write-blocks-spec : {M : Type 1} → statement M

@@ -10,12 +10,14 @@ use lib.ListN.{length}
 use lib.Signed.{nonNeg}
 use mir.Syntax.{w32}
 use mir.ValLaws.{toZ-ofZ}
+use Rattle.distance.specs.Needed.{Distance}
 use Rattle.tree.specs.Table.{nodes}
 use Rattle.tree.specs.Forest.{treeOf}
 use Rattle.tree.proofs.Followed.{accepted-linked}
 use Rattle.level_order.specs.LevelOrder.{firstAt}
 use Rattle.level_order.specs.Fields.{get, put, PLACE, LEFT, RIGHT}
 use Rattle.shifts.specs.Shifts.{Bounded, Executed}
+use Rattle.level_order.specs.Numbered.{apart}
 use Rattle.families.specs.Joining.{Given}
 use Rattle.families.specs.Families.{Ready, Begun, AllJoined}
 use Rattle.level_order.proofs.Cells.{put-length}
@@ -30,8 +32,8 @@ module _ (s : tie.Start) where
   abbrev table : List ℕ
   table = s .args .table .now
 
-  abbrev D : ℕ
-  D = s .args .separation
+  abbrev D : Distance
+  D = apart table (s .args .separation) (s .args .widths .now)
 
   abbrev before : List ℤ
   before = s .args .work .now
@@ -66,18 +68,18 @@ module _ (s : tie.Start) where
 
 position-requires : tie.Need-position-requires
 position-requires c κs =
-    let s = c .before .before in
+    let s = c .before .before .before in
     first-reads (table s) (given s .accepted) (ready s .numbered) (p s) (ready s .inside)
 
 past-requires : tie.Need-past-requires
 past-requires c κs =
-    let s = c .before .before .before .before in
+    let s = c .before .before .before .before .before in
     (first-reads (table s) (given s .accepted) (ready s .numbered) (p s) (ready s .inside), count-reads (table s) (given s .accepted) (ready s .numbered) (p s) (ready s .inside))
 
 -- the two ends of the row are read
 module _ (c : tie.After-past) where
   abbrev s : tie.Start
-  s = c .before .before .before .before .before
+  s = c .before .before .before .before .before .before
 
   f-read : c .before .before .position .result ≡ f s
   f-read = c .before .before .position .ensures ∙ first-value (table s) (given s .accepted) (ready s .numbered) (p s) (ready s .inside)
@@ -119,7 +121,7 @@ module _ (c : tie.After-others) where
   s₁ = s (ends begin)
 
   abbrev mid : List ℤ
-  mid = c .others .last .1 .1 .0
+  mid = c .others .last .1 .1 .1 .0
 
   joined : AllJoined (table s₁) (D s₁) (f s₁) (end s₁) (begun s₁) mid
   joined =

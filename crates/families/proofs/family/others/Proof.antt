@@ -4,10 +4,12 @@ use mathlib.Core.List.{List}
 use Prim.Native.Nat.{ℕ, suc, _+_, _-_, _≤_, _<_}
 use native.Mathlib.Omega.{arith}
 use lib.IntN.{ℤ}
+use Rattle.distance.specs.Needed.{Distance}
 use Rattle.tree.specs.Table.{nodes}
 use Rattle.tree.specs.Forest.{treeOf}
 use Rattle.tree.proofs.Followed.{accepted-linked}
 use Rattle.level_order.specs.LevelOrder.{firstAt}
+use Rattle.level_order.specs.Numbered.{apart}
 use Rattle.families.specs.Joining.{Given, Rowed, Waiting}
 use Rattle.families.specs.Families.{Begun, Through}
 use Rattle.level_order.proofs.Positions.{Ordered}
@@ -17,22 +19,22 @@ use Rattle.families.proofs.family.others.Statement.{statement}
 use Rattle.families.proofs.family.others.Tie as tie
 
 -- the children before c are joined
-abbrev SoFar : List ℕ → ℕ → ℕ → ℕ → ℕ → ℕ → List ℤ → List ℤ → Type 0
+abbrev SoFar : List ℕ → Distance → ℕ → ℕ → ℕ → ℕ → List ℤ → List ℤ → Type 0
 SoFar t D f end default c before work = Rowed t D f c end default work × Through t f c before work
 
 abbrev Inv-loop : tie.InvT-loop
-Inv-loop table separation work₀ f end default₀ c₀ work default c = SoFar table separation f end default c work₀ work
+Inv-loop table separation widths work₀ f end default₀ c₀ work default c = SoFar table (apart table separation widths) f end default c work₀ work
 
 abbrev μ-loop : tie.MeasureT-loop
-μ-loop table separation work₀ f end default₀ c₀ work default c = end - c
+μ-loop table separation widths work₀ f end default₀ c₀ work default c = end - c
 
 -- at the function's start
 module _ (s : tie.Start Inv-loop μ-loop) where
   abbrev table : List ℕ
   table = s .args .table .now
 
-  abbrev D : ℕ
-  D = s .args .separation
+  abbrev D : Distance
+  D = apart table (s .args .separation) (s .args .widths .now)
 
   abbrev before : List ℤ
   before = s .args .work .now
@@ -63,19 +65,19 @@ module _ (s : tie.Start Inv-loop μ-loop) where
 
 add-c : tie.Need-add-c Inv-loop μ-loop
 add-c c =
-    let s = c .before in
+    let s = c .before .before in
     omega (arith, begun s .rowed .siblings .more, fits s, few s)
 
 loop-holds : tie.Need-loop-holds Inv-loop μ-loop
 loop-holds c =
-    let s = c .before in
+    let s = c .before .before in
     subst (λ (k : ℕ). SoFar (table s) (D s) (f s) (end s) (f s) k (before s) (before s)) (next s)
     (begun s .rowed, through-start (table s) (f s) (suc (f s)) (before s))
 
 -- in a turn of the loop
 module _ (q : tie.In-loop Inv-loop μ-loop) where
   abbrev start : tie.Start Inv-loop μ-loop
-  start = q .before .before .before
+  start = q .before .before .before .before
 
   abbrev c : ℕ
   c = q .before .loop .c
@@ -117,7 +119,7 @@ loop-again : tie.Need-loop-again Inv-loop μ-loop
 loop-again w =
     let q = turn w in
     let s = start q in
-    let after = w .before .join .last .1 .0 in
+    let after = w .before .join .last .1 .1 .1 .0 in
     let e : suc (c q) ≡ c q + 1 = omega arith in
     subst (λ (k : ℕ). SoFar (table s) (D s) (f s) (end s) (w .before .join .result) k (before s) after) e (
       w .before .join .ensures .rowed,
@@ -129,7 +131,7 @@ same-length c = c .before .loop .inv .1 .size
 
 returns : tie.Need-returns Inv-loop μ-loop
 returns w =
-    let s = w .before .before .before in
+    let s = w .before .before .before .before in
     let l = w .before .loop in
     let done : l .c ≡ end s = omega (arith, l .inv .0 .siblings .more, w .loop-test .left) in
     record {

@@ -1,22 +1,21 @@
 -- `families::join::join` meets its contract. The measure is how many positions are left after the child's first node. Assumes nothing.
-use mathlib.Core.Path.{_≡_, refl, sym, ap, _∙_, subst, subst₂}
+use mathlib.Core.Path.{_≡_, sym, ap, _∙_, subst, subst₂}
 use mathlib.Core.Bool.{true, false}
 use mathlib.Core.List.{List}
 use Prim.Native.Nat.{ℕ, _+_, _-_}
 use native.Mathlib.Omega.{arith}
 use lib.IntN.{ℤ, pos, natAbs, _+ℤ_}
 use lib.ListN.{length}
-use mir.Syntax.{w32}
-use mir.Val.{toZ}
 use Rattle.tree.specs.Table.{nodes}
 use Rattle.level_order.specs.Fields.{put, PLACE}
-use Rattle.level_order.proofs.Signed32.{stored, Held, held, plus, signed, natural}
+use Rattle.level_order.proofs.Signed32.{stored, Held, plus, natural}
+use Rattle.level_order.specs.Numbered.{apart}
 use Rattle.families.specs.declared.join.Stand.{Stand}
 use Rattle.families.specs.Descent.{Level, Threads, Steps, topLevel, lower, isEnd, threaded, newDefault}
 use Rattle.families.specs.Joining.{Joined}
-use Rattle.families.proofs.Joining.{Joins, Joining, joining, few, startAt, small-n, last-at, start-here, row-last-bound}
+use Rattle.families.proofs.Joining.{Joins, Joining, joining, few, startAt, small-n, last-at, need-here, start-here, row-last-bound}
 use Rattle.families.proofs.Contour.{Contour, pushed, level, room, moved-most, contour-first}
-use Rattle.families.proofs.Meeting.{close, moved, next, kept-next, moved-bound}
+use Rattle.families.proofs.Meeting.{close, moved, next, need-now, kept-next, moved-bound}
 use Rattle.families.proofs.Deeper.{threads, steps-below, contour-lower, fewer-left}
 use Rattle.families.proofs.Threaded.{Ends}
 use Rattle.families.proofs.JoinEnd.{ends, joined}
@@ -24,40 +23,35 @@ use Rattle.families.proofs.join.join.Statement.{statement}
 use Rattle.families.proofs.join.join.Tie as tie
 
 abbrev Inv-contours : tie.InvT-contours
-Inv-contours table work₀ f c end default separation s₀ start work s = (H : Joins table separation f c end default work₀) × Contour (joining H) work s
+Inv-contours table separation widths work₀ f c end default s₀ start work s =
+    (H : Joins table (apart table separation widths) f c end default work₀) × Contour (joining H) work s
 
 abbrev μ-contours : tie.MeasureT-contours
-μ-contours table work₀ f c end default separation s₀ start work s = nodes table - s .b
+μ-contours table separation widths work₀ f c end default s₀ start work s = nodes table - s .b
 
 -- at the function's start
 module _ (s : tie.Start Inv-contours μ-contours) where
-  joins : Joins (s .args .table .now) (s .args .separation) (s .args .f) (s .args .c) (s .args .end) (s .args .default) (s .args .work .now)
+  joins : Joins (s .args .table .now) (apart (s .args .table .now) (s .args .separation) (s .args .widths .now)) (s .args .f) (s .args .c) (s .args .end) (s .args .default) (s .args .work .now)
   joins = record { given = s .pre .0; rowed = s .pre .1 .0; waiting = s .pre .1 .1 .0; inside = s .pre .1 .1 .1 }
 
   abbrev K : Joining
   K = joining joins
 
-  separation-read : toZ w32 (K .D) ≡ pos (K .D)
-  separation-read = signed (K .D) (omega (arith, joins .given .high))
-
-cast-begin : tie.Need-cast-begin Inv-contours μ-contours
-cast-begin c = held {z = pos (K (c .before .before) .D)} refl (omega (arith, joins (c .before .before) .given .high)) .fits
-
 begin-requires : tie.Need-begin-requires Inv-contours μ-contours
 begin-requires c κs =
-    let s = c .before .before in
+    let s = c .before .before .before in
     let H = joins s in (
       (H .rowed .siblings .some, omega (arith, small-n (K s), few (K s)), omega (arith, small-n (K s), H .rowed .numbered .size)),
-      (omega (arith, ap natAbs (last-at (K s)), row-last-bound (K s)), omega (arith, ap natAbs (separation-read s), H .given .high)),
+      (omega (arith, ap natAbs (last-at (K s)), row-last-bound (K s)), omega (arith, ap natAbs (need-here (K s)), H .given .high (K s .c - 1) (K s .c))),
     )
 
 -- where the walk begins
 module _ (c : tie.After-begin Inv-contours μ-contours) where
   abbrev first : tie.Start Inv-contours μ-contours
-  first = c .before .before .before
+  first = c .before .before .before .before
 
-  begun : c .begin .result ≡ topLevel (K first .before) (K first .f) (K first .c) (pos (K first .D))
-  begun = c .begin .ensures ∙ ap (topLevel (K first .before) (K first .f) (K first .c)) (separation-read first)
+  begun : c .begin .result ≡ topLevel (K first .before) (K first .f) (K first .c)
+  begun = c .begin .ensures
 
   start-read : stored (c .begin .result .left) ≡ pos (startAt (K first))
   start-read = natural (c .begin .result .left) (startAt (K first)) (ap (λ (r : Stand). r .left) begun ∙ start-here (K first)) (omega (arith, moved-most (contour-first (K first))))
@@ -81,7 +75,7 @@ module _ (c : tie.After-meet-arg Inv-contours μ-contours) where
 meet-requires : tie.Need-meet-requires Inv-contours μ-contours
 meet-requires c κs =
     let C = C c in
-    (level C (c .before .contours .work) (C .k) (C .kept) (moved-most C) (stand c .moved) (C .moved), (K₁ c .joins .given .high, omega (arith, moved-bound C)))
+    (level C (c .before .contours .work) (C .k) (C .kept) (moved-most C) (stand c .moved) (C .moved), (omega (arith, ap natAbs (need-now C), K₁ c .joins .given .high (stand c .b - 1) (stand c .b)), omega (arith, moved-bound C)))
 
 -- once the level is worked on
 module _ (m : tie.After-meet Inv-contours μ-contours) where
@@ -225,7 +219,6 @@ join-spec =
     (tie.spec
     Inv-contours
     μ-contours
-    cast-begin
     begin-requires
     contours-holds
     meet-requires

@@ -10,11 +10,14 @@ mul-if1 c = search needs
 returns : tie.Need-returns
 returns c = rw (lt-ltb _ _ (c .if1 .taken))
 
-mul-result : tie.Need-mul-result
-mul-result c = search needs
+mul-if2 : tie.Need-mul-if2
+mul-if2 c = search needs
 
 returns-2 : tie.Need-returns-2
-returns-2 c = rw (le-ltb _ _ (c .if1 .left))
+returns-2 c = rw (le-ltb _ _ (c .before .if1 .left), lt-ltb _ _ (c .if2 .taken))
+
+returns-3 : tie.Need-returns-3
+returns-3 c = rw (le-ltb _ _ (c .before .if1 .left), le-ltb _ _ (c .if2 .left))
 
 pub room-wrong-spec : {M : Type 1} → statement M
-room-wrong-spec = tie.close (tie.spec mul-if1 returns mul-result returns-2)
+room-wrong-spec = tie.close (tie.spec mul-if1 returns mul-if2 returns-2 returns-3)

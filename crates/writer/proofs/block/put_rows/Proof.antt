@@ -18,17 +18,17 @@ use Rattle.writer.proofs.block.put_rows.Statement.{statement}
 use Rattle.writer.proofs.block.put_rows.Tie as tie
 
 abbrev Inv-loop : tie.InvT-loop
-Inv-loop block₀ nodes table tapes last at₀ block at =
+Inv-loop block₀ nodes table tapes widths last at₀ block at =
     (OnRow at) × (at₀ .node ≤ at .node) × (at .node < at₀ .node + rowsOf nodes at₀)
-    × (block ≡ storeWords block₀ firstWord (rowsFrom table tapes (at₀ .node) (at .node - at₀ .node)))
+    × (block ≡ storeWords block₀ firstWord (rowsFrom table tapes widths (at₀ .node) (at .node - at₀ .node)))
 
 abbrev μ-loop : tie.MeasureT-loop
-μ-loop block₀ nodes table tapes last at₀ block at = nodes - at .node
+μ-loop block₀ nodes table tapes widths last at₀ block at = nodes - at .node
 
 -- at the loop's head
 module _ (h : tie.At-loop Inv-loop μ-loop) where
   abbrev start : tie.Start Inv-loop μ-loop
-  start = h .before .before .before .before
+  start = h .before .before .before .before .before
 
   same-size : length (h .loop .block) ≡ length (start .args .block .now)
   same-size = ap length (h .loop .inv .3) ∙ length-stored _ firstWord _
@@ -38,14 +38,17 @@ module _ (h : tie.At-loop Inv-loop μ-loop) where
 
   -- one row more is stored, which makes k
   row-stored : (k : ℕ) (last : List ℕ) → h .loop .at .node + 1 ≡ start .args .from .node + k
-      → last ≡ storeWords (h .loop .block) (nodeWord (h .loop .at .node)) (row (start .args .table .now) (start .args .tapes .now) (h .loop .at .node))
       → last
-      ≡ storeWords (start .args .block .now) firstWord (rowsFrom (start .args .table .now) (start .args .tapes .now) (start .args .from .node) k)
+      ≡ storeWords (h .loop .block) (nodeWord (h .loop .at .node))
+      (row (start .args .table .now) (start .args .tapes .now) (start .args .widths .now) (h .loop .at .node))
+      → last
+      ≡ storeWords (start .args .block .now) firstWord
+      (rowsFrom (start .args .table .now) (start .args .tapes .now) (start .args .widths .now) (start .args .from .node) k)
   row-stored k last count stored =
       let before : ℕ = h .loop .at .node - start .args .from .node in
       let node : start .args .from .node + before ≡ h .loop .at .node = omega arith in
       let all : k ≡ before + 1 = omega arith in
-      rw all (rows-more _ _ _ _ _ last before (h .loop .inv .3) (rw (← here, node) stored))
+      rw all (rows-more _ _ _ _ _ _ last before (h .loop .inv .3) (rw (← here, node) stored))
 
 -- the loop is left at the block's last row
 ended : (c : tie.Joined1 Inv-loop μ-loop)
@@ -62,14 +65,15 @@ sub-last c = omega arith
 loop-holds : tie.Need-loop-holds Inv-loop μ-loop
 unfolding joined
 loop-holds c =
-    let s = c .before .before .before in
+    let s = c .before .before .before .before in
     let none : s .args .from .node - s .args .from .node ≡ 0 = omega arith in
-    (s .pre .0 .on-row, omega arith, omega arith, rw none (sym (store-none _ firstWord)))
+    let at = s .pre .0 .on-row in
+    (record { block = at .block; word = omega arith }, omega arith, omega arith, rw none (sym (store-none _ firstWord)))
 
 put-row-requires : tie.Need-put-row-requires Inv-loop μ-loop
 put-row-requires c κs =
     let head = c .before .before .before .before .before in
-    ((head .loop .inv .0, omega (arith, same-size head)), (omega arith, omega arith))
+    ((head .loop .inv .0, omega (arith, same-size head)), (omega arith, omega arith, omega arith))
 
 next-row-requires : tie.Need-next-row-requires Inv-loop μ-loop
 next-row-requires c κs =
@@ -95,7 +99,7 @@ loop-again c =
 put-row-requires-2 : tie.Need-put-row-requires-2 Inv-loop μ-loop
 put-row-requires-2 c κs =
     let head = c .before .before .before in
-    ((head .loop .inv .0, omega (arith, same-size head)), (omega arith, omega arith))
+    ((head .loop .inv .0, omega (arith, same-size head)), (omega arith, omega arith, omega arith))
 
 next-row-requires-2 : tie.Need-next-row-requires-2 Inv-loop μ-loop
 next-row-requires-2 c κs =
@@ -105,7 +109,7 @@ next-row-requires-2 c κs =
 same-length : tie.Need-same-length Inv-loop μ-loop
 same-length c =
     let head = c .before .before .before .before .before .before .before in
-    ap length (c .before .before .before .put-row2 .ensures) ∙ length-stored _ _ _ ∙ same-size head
+    rw (c .before .before .before .put-row2 .ensures, length-stored) (same-size head)
 
 returns : tie.Need-returns Inv-loop μ-loop
 returns c =

@@ -1,5 +1,5 @@
 -- `block::write_block` writes a block of rows. Assumes nothing.
-use mathlib.Core.Path.{refl}
+use mathlib.Core.Path.{_≡_, refl}
 use mathlib.Core.List.{[], _∷_}
 use native.Mathlib.Omega.{arith}
 use Rattle.sheet.specs.Layout.{rowWord}
@@ -11,11 +11,11 @@ use borrow.Author.Needs.{needs}
 use Rattle.writer.proofs.block.write_block.Statement.{statement}
 use Rattle.writer.proofs.block.write_block.Tie as tie
 
-sub-rows-in : tie.Need-sub-rows-in
-sub-rows-in c = search needs
+sub-rows-of : tie.Need-sub-rows-of
+sub-rows-of c = search needs
 
-rows-in-requires : tie.Need-rows-in-requires
-rows-in-requires c κs = search needs
+rows-of-requires : tie.Need-rows-of-requires
+rows-of-requires c κs = search needs
 
 put-head-requires : tie.Need-put-head-requires
 put-head-requires c κs = search needs
@@ -45,11 +45,11 @@ returns c =
     let stored = zeros .before .before .before .before in
     let head = stored .before .before .before .before in
     let counted = head .before .before in
-    let s = counted .before .before .before .before .before in
+    let s = counted .before .before .before .before .before .before in
     let a = s .args in
-    let count = counted .rows-in .ensures in
-    let rows = rowsFrom (a .table .now) (a .tapes .now) (a .from .node) (rowsOf (a .nodes) (a .from)) in
-    let size = length-rows (a .table .now) (a .tapes .now) (a .from .node) (rowsOf (a .nodes) (a .from)) in
+    let count : counted .rows-of .result ≡ rowsOf (a .nodes) (a .from) = omega (arith, counted .rows-of .ensures, s .pre .0 .first) in
+    let rows = rowsFrom (a .table .now) (a .tapes .now) (a .widths .now) (a .from .node) (rowsOf (a .nodes) (a .from)) in
+    let size = length-rows (a .table .now) (a .tapes .now) (a .widths .now) (a .from .node) (rowsOf (a .nodes) (a .from)) in
     let words =
     stored-next (a .block .now) 0 (a .from .block ∷ rowsOf (a .nodes) (a .from) ∷ []) rows _ _ 2 refl (rw (← count) (head .put-head .ensures))
     (stored .put-rows .ensures .1)
@@ -63,8 +63,8 @@ pub write-block-spec : {M : Type 1} → statement M
 write-block-spec =
     tie.close
     (tie.spec
-    sub-rows-in
-    rows-in-requires
+    sub-rows-of
+    rows-of-requires
     put-head-requires
     put-rows-requires
     mul-put-zeros

@@ -6,7 +6,7 @@ use Prim.Native.Nat.{ℕ, _≤_, _<_}
 use lib.Dec.{leb}
 use borrow.Author.Tests.{leb-true, le-leb, lt-leb, not-false}
 use Rattle.refusal.proofs.Truth.{and-left, and-right}
-use Rattle.rule.specs.Result.{badSeparation}
+use Rattle.distance.specs.Needed.{badSeparation}
 
 module _ (D : ℕ) where
   pub separation-bad : (D < 1) ⊎ (1024 < D) → badSeparation D ≡ true
