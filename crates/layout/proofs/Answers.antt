@@ -177,7 +177,7 @@ module _ (t : List ℕ) (D : ℕ) (hs : List ℕ) (s : Slices) where
     same-places : placesOf (needed D (take (nodes t) hs)) t ≡ placesOf (needed D hs) t
     same-places =
         places-agree t (T .table) (needed D (take (nodes t) hs)) (needed D hs)
-        (λ a b h k. ap₂ (λ (x y : ℕ). D + x + y) (first-widths hs (nodes t) (T .wide) a h) (first-widths hs (nodes t) (T .wide) b k))
+        (λ a b h k. ap₂ (λ (x y : ℕ). D + x + y) (first-widths hs (nodes t) a h) (first-widths hs (nodes t) b k))
 
     -- the extremes are far from the ends of 32 bits
     few-needed : (a b : ℕ) → a < nodes t → b < nodes t → needed D hs a b ≤ 1536

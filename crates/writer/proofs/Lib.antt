@@ -5,6 +5,5 @@ pub mod Rows
 pub mod Closed
 pub mod Blocks
 pub mod Answer
-pub mod HalfWidths
 pub mod RoundTrips
 pub mod Example

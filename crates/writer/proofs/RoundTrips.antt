@@ -17,6 +17,7 @@ use Rattle.tree.proofs.Number.{table-refused, table-passed}
 use Rattle.tree.proofs.Stands.{accepted-numbers, accepted-length}
 use Rattle.distance.specs.Needed.{halfWidth, badSeparation, badHalfWidths}
 use Rattle.distance.proofs.Separation.{separation-good}
+use Rattle.distance.proofs.HalfWidths.{narrow-good, first-alike}
 use Rattle.sheet.specs.Block.{blockBytes}
 use Rattle.sheet.specs.Layout.{blocksFor}
 use Rattle.sheet.specs.Read.{nodesOf, separationOf, tableOf, tapesOf, halfWidthsOf, numberRead, SheetRead}
@@ -30,7 +31,6 @@ use Rattle.sheet.proofs.Written.{length-file, entries-unseen}
 use Rattle.writer.specs.Write.{sheetFile, ownConditions, writeNumber, SheetWritten}
 use Rattle.writer.specs.declared.Written.{Written}
 use Rattle.writer.proofs.Answer.{Taken, taken}
-use Rattle.writer.proofs.HalfWidths.{narrow-good, seen-alike}
 
 -- ---- what an accepted call wrote
 
@@ -115,7 +115,7 @@ module _ (table : List ℕ) (D : ℕ) (tapes other-tapes halfWidths other-half-w
       rw (
         le-ltb _ _ enough,
         le-ltb _ _ other-enough,
-        seen-alike (nodes table) halfWidths other-half-widths widths-enough other-widths-enough same-half-widths,
+        first-alike (nodes table) halfWidths other-half-widths widths-enough other-widths-enough same-half-widths,
         same-file,
       )
 
