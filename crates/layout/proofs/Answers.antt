@@ -168,7 +168,6 @@ module _ (t : List ℕ) (D : ℕ) (hs : List ℕ) (s : Slices) where
     first-ones =
         record {
           accepted = T .table;
-          low = T .some;
           high = T .small;
           each = length-take-le (nodes t) hs (T .wide);
           narrow = first-narrow hs (nodes t) (T .wide) (T .narrow);

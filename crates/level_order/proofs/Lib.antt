@@ -1,5 +1,6 @@
 -- Why the numbering gives level order, and what level order is good for. Below: the forest of the nodes that wait, runs of positions, the
--- queue in the working slice, the numbering of a table, and the order of its levels. Stands on `tree`; every later stage stands on it.
+-- queue in the working slice, the numbering of a table, and the order of its levels. Stands on `tree` and
+-- `distance`; every later stage stands on it.
 pub mod Waiting
 pub mod FirstAt
 pub mod InQueue

@@ -14,7 +14,6 @@ use Rattle.level_order.specs.Fields.{get, NODE, FIRST, COUNT, PARENT, NE
 -- a table, a separation, and a half-width for each node, that are accepted
 pub record Accepted (t : List ℕ) (separation : ℕ) (halfWidths : List ℕ) : Type 0 where
   pub accepted : tableNumber t ≡ 0
-  pub low : 1 ≤ separation
   pub high : separation ≤ 1024
   pub each : length halfWidths ≡ nodes t
   pub narrow : (v : ℕ) → halfWidth halfWidths v ≤ 256

@@ -15,7 +15,7 @@ use Rattle.tree.specs.WellFormed.{tableConditions, tableNumber}
 use Rattle.tree.proofs.Number.{table-refused, table-passed}
 use Rattle.tree.proofs.Stands.{accepted-numbers}
 use Rattle.rule.specs.Result.{Slices, layoutNumber}
-use Rattle.layout.proofs.Answers.{results-long, work-long, number-table, number-17, number-0, taken}
+use Rattle.layout.proofs.Answers.{results-long, work-long, number-table, number-17, number-0}
 use Rattle.lines.specs.Listing.{refusedLine}
 use Rattle.render.specs.Text.{unlessRefused, drawingNumber}
 
@@ -41,10 +41,6 @@ module _ (t : List ℕ) (D : ℕ) (hs : List ℕ) (s : Slices) (some : 1 ≤ D) 
       go : (k : ℕ) → k ≡ tableNumber t → layoutNumber t D hs s ≡ first (tableConditions t ++ own)
       go zero e = past (sym e) (badHalfWidths (nodes t) hs) refl ∙ sym (table-passed t own (sym e))
       go (suc k) e = sym (number-table t D hs s (suc k) e (λ z. omega arith)) ∙ sym (table-refused t own (suc k) e (λ z. omega arith))
-
-  -- so a table that is drawn is well-formed
-  pub drawn-accepted : layoutNumber t D hs s ≡ 0 → tableNumber t ≡ 0
-  drawn-accepted e = taken t D hs s e .table
 
 -- ---- the text
 

@@ -1,6 +1,6 @@
 -- Why the written rule keeps what the paper asks of it: order and distance on a level, the record, equal shapes, even gaps, the width,
--- tightness. Stands on `tree`; `contours` builds on its walk, `second_walk` on its extremes, and `layout` tells its promises of what a call
--- returns.
+-- tightness; whatever distance two nodes need. Stands on `tree` and `distance`; `contours` builds on its walk, `second_walk` on its
+-- extremes, and `layout` tells its promises of what a call returns.
 pub mod Signed
 pub mod Names
 pub mod Pairs

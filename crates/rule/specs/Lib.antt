@@ -1,5 +1,5 @@
--- The written rule: where a node stands, and what the layout of a table gives. Stands on `tree`, with no code; the engine is held to it,
--- and `layout` cites its result.
+-- The written rule: where a node stands, and what the layout of a table gives. Stands on `tree` and `distance`, with no code; the engine is held
+-- to it, and `layout` cites its result.
 pub mod Drawing
 pub mod Join
 pub mod Rule
