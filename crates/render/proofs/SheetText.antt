@@ -1,22 +1,20 @@
 -- What is printed for a file, from what the reader promises and what is printed for a table. Assumes nothing.
-use mathlib.Core.Path.{_≡_, refl, sym, ap, _∙_, subst}
+use mathlib.Core.Path.{_≡_, sym, ap, _∙_, subst}
 use mathlib.Core.Bool.{Bool, true, not}
 use mathlib.Core.Logic.{inr}
 use mathlib.Core.List.{List}
 use Prim.Native.Nat.{ℕ, _*_, _%_, _≤_, _<_}
-use native.Mathlib.Omega.{arith}
 use lib.Dec.{eqb, ltb, leb}
 use lib.ListN.{length, take}
 use borrow.Author.Tests.{le-leb, lt-ltb}
 use Rattle.refusal.proofs.After.{granted-accepted, after-accepted, take-overwrite}
 use Rattle.tree.specs.Table.{nodes}
 use Rattle.refusal.proofs.Truth.{or-true}
-use Rattle.sheet.specs.Below.{joined}
 use Rattle.sheet.specs.Block.{blockBytes}
 use Rattle.sheet.specs.Layout.{blocksFor}
 use Rattle.sheet.specs.declared.Sheet.{Sheet}
-use Rattle.sheet.specs.Read.{nodesOf, separationOf, nodePair, nodeSingle, tableOf, tapesOf, halfWidthsOf, lengthWrong, fileNumber, numberRead, SheetRead}
-use Rattle.sheet.proofs.Below.{length-joined}
+use Rattle.sheet.specs.Read.{nodesOf, separationOf, tableOf, tapesOf, halfWidthsOf, lengthWrong, fileNumber, numberRead, SheetRead}
+use Rattle.sheet.proofs.Reading.{length-pairs, length-singles}
 use Rattle.sheet.proofs.Answer.{readable, file-decides}
 use Rattle.lines.specs.Listing.{refusedLine}
 use Rattle.lines.specs.Printed.{mostNodes, when, Printed, RefusalPrinted}
@@ -65,26 +63,20 @@ module _ (file table tapes widths table′ tapes′ widths′ : List ℕ) (r : S
     pub separation-small : r .separation ≤ 1024
     separation-small = subst (λ (d : ℕ). d ≤ 1024) (sym separation-read) (readable file file-sound .separation-most)
 
-    pair-length : (j n : ℕ) → length (joined n (nodePair file j)) ≡ 2 * n
-    pair-length j n = length-joined 2 (nodePair file j) (λ k. refl) n
-
     table-read : take (2 * r .nodes) table′ ≡ tableOf file (nodesOf file)
     table-read =
         ap (λ (l : List ℕ). take (2 * r .nodes) l) (S .table-after ∙ after-accepted _ (tableOf file (nodesOf file)) table taken)
-        ∙ take-overwrite (2 * r .nodes) (tableOf file (nodesOf file)) table (pair-length 0 (nodesOf file) ∙ ap (λ (n : ℕ). 2 * n) (sym nodes-read))
+        ∙ take-overwrite (2 * r .nodes) (tableOf file (nodesOf file)) table (length-pairs file 0 (nodesOf file) ∙ ap (λ (n : ℕ). 2 * n) (sym nodes-read))
 
     tapes-read : take (2 * r .nodes) tapes′ ≡ tapesOf file (nodesOf file)
     tapes-read =
         ap (λ (l : List ℕ). take (2 * r .nodes) l) (S .tapes-after ∙ after-accepted _ (tapesOf file (nodesOf file)) tapes taken)
-        ∙ take-overwrite (2 * r .nodes) (tapesOf file (nodesOf file)) tapes (pair-length 2 (nodesOf file) ∙ ap (λ (n : ℕ). 2 * n) (sym nodes-read))
+        ∙ take-overwrite (2 * r .nodes) (tapesOf file (nodesOf file)) tapes (length-pairs file 2 (nodesOf file) ∙ ap (λ (n : ℕ). 2 * n) (sym nodes-read))
 
     widths-read : take (r .nodes) widths′ ≡ halfWidthsOf file (nodesOf file)
     widths-read =
         ap (λ (l : List ℕ). take (r .nodes) l) (S .half-widths-after ∙ after-accepted _ (halfWidthsOf file (nodesOf file)) widths taken)
-        ∙ take-overwrite (r .nodes) (halfWidthsOf file (nodesOf file)) widths (length-joined 1 (nodeSingle file 4) (λ k. refl) (nodesOf file) ∙ one (nodesOf file) ∙ sym nodes-read)
-      where
-        one : (n : ℕ) → 1 * n ≡ n
-        one n = omega arith
+        ∙ take-overwrite (r .nodes) (halfWidthsOf file (nodesOf file)) widths (length-singles file 4 (nodesOf file) ∙ sym nodes-read)
 
     same-text : tableText (r .separation) (take (2 * r .nodes) table′) (take (2 * r .nodes) tapes′) (take (r .nodes) widths′) ≡ sheetText file
     unfolding sheetText
