@@ -81,12 +81,26 @@ static int fits(const uint8_t *file, size_t blocks, size_t nodes, size_t block, 
     size_t rows = block + 1 < blocks ? BLOCK_ROWS : nodes - BLOCK_ROWS * (blocks - 2);
     size_t value = get_word(file, block, word);
     if (block == 0) {
-        return word == 0 || word == 2 || word == 3 || word == 255 || value == (word == 1);
+        return word == 0 || word == 2 || word == 3 || word >= 254 || value == (word == 1);
     }
     if (word == 1) {
         return value == rows;
     }
-    return word == 0 || word == 255 || word < 2 + 5 * rows || value == 0;
+    return word == 0 || word >= 254 || word < 2 + 5 * rows || value == 0;
+}
+
+/* Whether word 254 is the sum of the words before it, each times one more than its index, and all
+   words add up to 0, modulo 65536. */
+static int sound(const uint8_t *file, size_t block)
+{
+    uint32_t plain = 0, weighted = 0;
+    for (size_t word = 0; word < BLOCK_WORDS; word++) {
+        plain += get_word(file, block, word);
+    }
+    for (uint32_t word = 0; word < 254; word++) {
+        weighted += (word + 1) * get_word(file, block, word);
+    }
+    return weighted % 65536 == get_word(file, block, 254) && plain % 65536 == 0;
 }
 
 unsigned sheet_number(const uint8_t *file, size_t bytes, size_t table_len, size_t tapes_len,
@@ -97,11 +111,7 @@ unsigned sheet_number(const uint8_t *file, size_t bytes, size_t table_len, size_
         return 9;
     }
     for (size_t block = 0; block < blocks; block++) {
-        uint32_t sum = 0;
-        for (size_t word = 0; word < BLOCK_WORDS; word++) {
-            sum += get_word(file, block, word);
-        }
-        if (sum % 65536 != 0) {
+        if (!sound(file, block)) {
             return 10;
         }
     }

@@ -2,7 +2,7 @@
  * Takes an input as one call of the library, makes the call on slices of exactly their lengths
  * beside pages that cannot be accessed, and holds all that came of it against the paper. An input:
  *
- *     byte 0         the operation, modulo 8
+ *     byte 0         the operation, modulo 8; 8 more for PLAIN
  *     byte 1         what is done to the rest, see the bits below
  *     bytes 2, 3     the separation, low byte first, as are all words
  *     bytes 4 to 8   for each slice besides the table, file or text, how many entries more than
@@ -27,11 +27,12 @@ enum {
     TREE = 1,         /* the rest is a well-formed tree, and a file or a text is of that tree */
     TURNED = 2,       /* the tree's nodes but the root are numbered from the last */
     DAMAGED = 4,      /* an entry, a word of the file, or a byte of the text is replaced */
-    CLOSED = 8,       /* then every block's sum is made zero */
+    CLOSED = 8,       /* then both sums of every block are made right */
     AFTER_GUARD = 16, /* the slices start after a guarded page, and do not end at one */
     CUT = 32,         /* before any damage, a part of the tree is cut off as a stray */
     RING = 64,        /* with CUT: parts of it are joined to rings instead */
-    WIDE = 128        /* a half-width is replaced by the damage's word */
+    WIDE = 128,       /* a half-width is replaced by the damage's word */
+    PLAIN = 256       /* with CLOSED: the plain sums alone are made right */
 };
 
 enum { HEAD = 14, MOST_ENTRIES = (MOST_FILE + BLOCK_BYTES) / 2 };
@@ -141,7 +142,7 @@ static size_t file_of(const struct input *input, uint8_t *file)
         put_word(file, 0, input->index % (blocks * BLOCK_WORDS), input->word);
     }
     for (size_t block = 0; (input->bits & CLOSED) && block < blocks; block++) {
-        close_block(file, block);
+        (input->bits & PLAIN ? close_plain_sum : close_block)(file, block);
     }
     return bytes;
 }
@@ -497,7 +498,7 @@ int LLVMFuzzerTestOneInput(const uint8_t *data, size_t size)
         return 0;
     }
     struct input input = {
-        .bits = data[1],
+        .bits = data[1] + (data[0] / 8 % 2 == 1 ? PLAIN : 0),
         .separation = get_word(data, 0, 1),
         .widest = data[9],
         .index = get_word(data, 0, 5),

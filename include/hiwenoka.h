@@ -23,7 +23,8 @@
  *    7  a slice that is to be written is too short
  *    8  the working slice is too short
  *    9  the file's length is no multiple of 512, below 1024 or above 11264
- *   10  the words of a block do not add up to 0 modulo 65536
+ *   10  modulo 65536, a block's word 254 is not the sum of words 0 to 253, each times one more than
+ *       its index, or the block's 256 words do not add up to 0
  *   11  a block's first word is not its place, counted from 0
  *   12  n or D is not in 1 to 1024, the file's length is not that of n, or a word that the file's
  *       layout fixes differs
@@ -94,7 +95,8 @@ uint16_t hiwenoka_renumber(const uint16_t *table, size_t table_len,
  * than 2n entries or half_widths fewer than n. Writes n to nodes, D to separation, the table to the
  * first 2n entries of table, each node's tape number, low word then high word, to the first 2n
  * entries of tapes, and its half-width to the first n entries of half_widths. Neither the tree nor
- * the half-widths are judged. A file of interface 1 is refused 12.
+ * the half-widths are judged. A file from before word 254 was a check is refused 10, and so is one
+ * of interface 1.
  */
 uint16_t hiwenoka_read_sheet(const uint8_t *file, size_t file_len,
                              uint16_t *table, size_t table_len,

@@ -129,11 +129,21 @@ void put_word(uint8_t *file, size_t block, size_t word, size_t value)
 
 void close_block(uint8_t *file, size_t block)
 {
+    size_t weighted = 0;
+    for (size_t word = 0; word < WEIGHTED_WORD; word++) {
+        weighted += (word + 1) * get_word(file, block, word);
+    }
+    put_word(file, block, WEIGHTED_WORD, weighted);
+    close_plain_sum(file, block);
+}
+
+void close_plain_sum(uint8_t *file, size_t block)
+{
     size_t sum = 0;
-    for (size_t word = 0; word < BLOCK_WORDS - 1; word++) {
+    for (size_t word = 0; word < CLOSING_WORD; word++) {
         sum += get_word(file, block, word);
     }
-    put_word(file, block, BLOCK_WORDS - 1, 0 - sum);
+    put_word(file, block, CLOSING_WORD, 0 - sum);
 }
 
 size_t block_count(size_t nodes)
@@ -187,6 +197,49 @@ size_t make_sheet(uint8_t *file, const uint16_t *table, const uint16_t *tapes,
     return blocks * BLOCK_BYTES;
 }
 
+/* Exchanges two neighbouring words before the check words that are not equal; a block has such. */
+static void swap_words(uint8_t *file, size_t block)
+{
+    uint16_t one, other;
+    size_t word;
+    do {
+        word = below(WEIGHTED_WORD - 1);
+        one = get_word(file, block, word);
+        other = get_word(file, block, word + 1);
+    } while (one == other);
+    put_word(file, block, word, other);
+    put_word(file, block, word + 1, one);
+}
+
+static void change_word(uint8_t *file, size_t block, size_t word)
+{
+    put_word(file, block, word, get_word(file, block, word) + 1 + below(65535));
+}
+
+/* Makes one of a block's sums wrong, or both. */
+static void damage_sums(uint8_t *file, size_t block)
+{
+    switch (below(5)) {
+    case 0:
+        file[BLOCK_BYTES * block + below(BLOCK_BYTES)] ^= (uint8_t)(1 << below(8));
+        break;
+    case 1: /* the plain sum stays right */
+        swap_words(file, block);
+        break;
+    case 2: /* the same: a word of odd weight, so that any change makes the weighted sum wrong */
+        change_word(file, block, 2 * below(WEIGHTED_WORD / 2));
+        close_plain_sum(file, block);
+        break;
+    case 3: /* the same */
+        change_word(file, block, WEIGHTED_WORD);
+        close_plain_sum(file, block);
+        break;
+    case 4: /* the weighted sum stays right */
+        change_word(file, block, CLOSING_WORD);
+        break;
+    }
+}
+
 size_t damage_sheet(uint8_t *file, size_t bytes, unsigned number)
 {
     size_t blocks = bytes / BLOCK_BYTES, block = below(blocks);
@@ -196,7 +249,7 @@ size_t damage_sheet(uint8_t *file, size_t bytes, unsigned number)
         return lengths[below(6)];
     }
     case 10:
-        file[below(bytes)] ^= (uint8_t)(1 << below(8));
+        damage_sums(file, block);
         return bytes;
     case 11:
         put_word(file, block, 0, block + 1 + below(65535));
@@ -211,14 +264,14 @@ size_t damage_sheet(uint8_t *file, size_t bytes, unsigned number)
             put_word(file, 0, 3, below(2) == 0 ? 0 : 1025 + below(64511));
             break;
         case 2: /* a word of block 0 that is fixed */
-            put_word(file, 0, 4 + below(251), 1 + below(65535));
+            put_word(file, 0, 4 + below(WEIGHTED_WORD - 4), 1 + below(65535));
             break;
         case 3: /* a count of rows */
             put_word(file, blocks - 1, 1, BLOCK_ROWS + 1 + below(65535 - BLOCK_ROWS));
             close_block(file, blocks - 1);
             break;
-        case 4: /* a word between the rows and the closing one */
-            put_word(file, blocks - 1, 252 + below(3), 1 + below(65535));
+        case 4: /* a word between the rows and the check words */
+            put_word(file, blocks - 1, 252 + below(2), 1 + below(65535));
             close_block(file, blocks - 1);
             break;
         case 5: /* the word that tells layouts apart */

@@ -9,6 +9,7 @@
 enum { NONE = 65535, MOST_NODES = 1024 };
 enum { BLOCK_WORDS = 256, BLOCK_BYTES = 512, BLOCK_ROWS = 50, MOST_FILE = 22 * BLOCK_BYTES };
 enum { ROW_WORDS = 5, MOST_HALF_WIDTH = 256 };
+enum { WEIGHTED_WORD = 254, CLOSING_WORD = 255 };
 enum { MOST_TEXT = 16384 };
 
 /* A well-formed table of so many nodes, of some shape, numbered at random but for the root. */
@@ -25,8 +26,11 @@ void change_entry(uint16_t *table, size_t nodes);
 uint16_t get_word(const uint8_t *file, size_t block, size_t word);
 void put_word(uint8_t *file, size_t block, size_t word, size_t value);
 
-/* Makes a block's sum zero by its last word. */
+/* Makes both of a block's sums right by its check words. */
 void close_block(uint8_t *file, size_t block);
+
+/* Makes the plain sum alone zero, by the last word. */
+void close_plain_sum(uint8_t *file, size_t block);
 
 /* The blocks of a sheet file of so many nodes. */
 size_t block_count(size_t nodes);

@@ -3,7 +3,10 @@
 use crate::half_widths;
 use crate::random::Random;
 use crate::shapes::{self, random_table};
-use crate::sheet::{self, words_of, Sheet, BLOCK_BYTES, BLOCK_ROWS, BLOCK_WORDS, MOST_BLOCKS};
+use crate::sheet::{
+    self, words_of, Sheet, BLOCK_BYTES, BLOCK_ROWS, BLOCK_WORDS, CLOSING_WORD, MOST_BLOCKS,
+    WEIGHTED_WORD,
+};
 use crate::table::{MOST_NODES, NONE};
 
 /// A titled maker of many files.
@@ -13,7 +16,7 @@ pub struct Kind {
 }
 
 /// The kinds of files of every comparison of listings.
-pub const KINDS: [Kind; 11] = [
+pub const KINDS: [Kind; 12] = [
     Kind {
         title: "sound sheets of many shapes",
         make: sound_sheets,
@@ -31,7 +34,7 @@ pub const KINDS: [Kind; 11] = [
         make: refused_trees,
     },
     Kind {
-        title: "files of the old layout",
+        title: "files of the old layout and of the old sums",
         make: old_files,
     },
     Kind {
@@ -41,6 +44,10 @@ pub const KINDS: [Kind; 11] = [
     Kind {
         title: "words changed, most checks mended",
         make: changed_words,
+    },
+    Kind {
+        title: "words exchanged, and one of the two sums mended",
+        make: wrong_sums,
     },
     Kind {
         title: "n and D at their bounds",
@@ -103,6 +110,25 @@ pub fn sheet_of_words(nodes: usize, random: &mut Random) -> Sheet {
     }
 }
 
+/// Changes a tape number in each block of rows so that these come to be the block's check words.
+pub fn give_check_words(sheet: &mut Sheet, check_words: [u16; 2], random: &mut Random) {
+    let blocks = sheet::blocks_of(&sheet::write(sheet));
+    for (rows, block) in sheet.tapes.chunks_mut(2 * BLOCK_ROWS).zip(&blocks[1..]) {
+        let row = random.below(rows.len() / 2);
+        let weight = sheet::row_start(row).1 as u16 + 3;
+        let [weighted, closing] = check_words;
+        // What the two words must add to the weighted sum, and to the plain one without both check
+        // words. The high word's weight is one more than that of the low word.
+        let to_weighted = weighted.wrapping_sub(block[WEIGHTED_WORD]);
+        let to_plain = block[CLOSING_WORD]
+            .wrapping_sub(closing)
+            .wrapping_sub(to_weighted);
+        let high = to_weighted.wrapping_sub(weight.wrapping_mul(to_plain));
+        rows[2 * row] = rows[2 * row].wrapping_add(to_plain.wrapping_sub(high));
+        rows[2 * row + 1] = rows[2 * row + 1].wrapping_add(high);
+    }
+}
+
 pub fn random_file(table: Vec<u16>, random: &mut Random) -> Vec<u8> {
     sheet::write(&random_sheet(table, random))
 }
@@ -111,7 +137,7 @@ pub fn random_file(table: Vec<u16>, random: &mut Random) -> Vec<u8> {
 /// 1 of block 0 was 0.
 const OLD_BLOCK_ROWS: usize = 63;
 
-/// The blocks of a sheet in the old layout.
+/// The blocks of a sheet in the old layout, with 0 as word 254 and the plain sum alone made right.
 fn old_blocks(sheet: &Sheet) -> Vec<Vec<u16>> {
     let rows = sheet.table.chunks(2).zip(sheet.tapes.chunks(2));
     let rows: Vec<Vec<u16>> = rows.map(|(links, tape)| [links, tape].concat()).collect();
@@ -122,21 +148,42 @@ fn old_blocks(sheet: &Sheet) -> Vec<Vec<u16>> {
     }
     for block in &mut blocks {
         block.resize(BLOCK_WORDS, 0);
-        sheet::close(block);
+        sheet::mend_plain(block);
     }
     blocks
 }
 
-/// A sheet in the old layout, sound: refused 12.
+/// A sheet in the old layout: refused 10, as the weighted sum of a block 0 is never 0.
 pub fn old_file(sheet: &Sheet) -> Vec<u8> {
     sheet::bytes_of(&old_blocks(sheet))
 }
 
-/// The same with the word by which layouts are told apart as it is today.
+/// The same with both sums as they are today: refused 12.
+pub fn old_file_closed(sheet: &Sheet) -> Vec<u8> {
+    let mut blocks = old_blocks(sheet);
+    blocks.iter_mut().for_each(|block| sheet::close(block));
+    sheet::bytes_of(&blocks)
+}
+
+/// The same with the word by which layouts are told apart as it is today, too.
 pub fn old_file_renamed(sheet: &Sheet) -> Vec<u8> {
     let mut blocks = old_blocks(sheet);
     blocks[0][1] = 1;
-    sheet::close(&mut blocks[0]);
+    blocks.iter_mut().for_each(|block| sheet::close(block));
+    sheet::bytes_of(&blocks)
+}
+
+/// Gives a block 0 as word 254 and makes the plain sum alone right, as it was before there was a
+/// weighted one.
+pub fn old_sum(block: &mut [u16]) {
+    block[WEIGHTED_WORD] = 0;
+    sheet::mend_plain(block);
+}
+
+/// A sound file with such blocks: refused 10.
+pub fn old_sums(file: &[u8]) -> Vec<u8> {
+    let mut blocks = sheet::blocks_of(file);
+    blocks.iter_mut().for_each(|block| old_sum(block));
     sheet::bytes_of(&blocks)
 }
 
@@ -211,7 +258,8 @@ fn bounds_of_half_widths(random: &mut Random) -> Vec<Vec<u8>> {
     sheets.iter().map(sheet::write).collect()
 }
 
-/// Files of the old layout, as they are and with today's word 1.
+/// Files of the old layout, as they are, with both sums right and with today's word 1; and files
+/// of today's layout in which only the plain sums are right.
 fn old_files(random: &mut Random) -> Vec<Vec<u8>> {
     let mut files = Vec::new();
     let mut sizes = vec![
@@ -220,7 +268,12 @@ fn old_files(random: &mut Random) -> Vec<Vec<u8>> {
     sizes.extend((0..150).map(|_| random_size(random)));
     for nodes in sizes {
         let sheet = random_sheet(random_table(nodes, random), random);
-        files.extend([old_file(&sheet), old_file_renamed(&sheet)]);
+        files.extend([
+            old_file(&sheet),
+            old_file_closed(&sheet),
+            old_file_renamed(&sheet),
+            old_sums(&sheet::write(&sheet)),
+        ]);
     }
     files
 }
@@ -273,7 +326,7 @@ fn flipped_bits(random: &mut Random) -> Vec<Vec<u8>> {
     files
 }
 
-/// Every fixed word once, then any words, the check mended or not.
+/// Every fixed word once, then any words, the checks mended or not.
 fn changed_words(random: &mut Random) -> Vec<Vec<u8>> {
     let mut files = Vec::new();
     let nodes = 5;
@@ -295,6 +348,54 @@ fn changed_words(random: &mut Random) -> Vec<Vec<u8>> {
         files.push(sheet::bytes_of(&blocks));
     }
     files
+}
+
+/// Two words of a block exchanged, often neighbours; words changed with one of the sums mended; and
+/// a check word changed, the other mended for it.
+fn wrong_sums(random: &mut Random) -> Vec<Vec<u8>> {
+    let mut files = Vec::new();
+    for round in 0..800 {
+        let nodes = random_size(random);
+        let mut blocks = random_blocks(nodes, random);
+        let place = random.below(blocks.len());
+        let block = &mut blocks[place];
+        match round % 4 {
+            0 => {
+                let index = random.below(BLOCK_WORDS - 1);
+                block.swap(index, index + 1);
+            }
+            1 => block.swap(random.below(BLOCK_WORDS), random.below(WEIGHTED_WORD)),
+            2 => {
+                damage(&mut block[..WEIGHTED_WORD], random);
+                mend_one(block, random);
+            }
+            _ => {
+                damage(&mut block[WEIGHTED_WORD..], random);
+                mend_one(block, random);
+            }
+        }
+        files.push(sheet::bytes_of(&blocks));
+    }
+    files
+}
+
+/// Changes one to four words of a block.
+pub fn damage(words: &mut [u16], random: &mut Random) {
+    for _ in 0..random.between(1, 4) {
+        let word = &mut words[random.below(words.len())];
+        *word = match random.below(4) {
+            0 => !*word,
+            1 => word.wrapping_add(1),
+            2 => *word ^ 0x8000,
+            _ => random.word(),
+        };
+    }
+}
+
+/// Makes one of a block's sums right and leaves the other as it comes to be.
+fn mend_one(block: &mut [u16], random: &mut Random) {
+    let mend = [sheet::mend_weighted, sheet::mend_plain][random.below(2)];
+    mend(block);
 }
 
 /// n and D at their bounds in files of several lengths.
@@ -363,7 +464,8 @@ fn lengths(random: &mut Random) -> Vec<Vec<u8>> {
     files
 }
 
-/// Changes one to four words, and closes most of the blocks again.
+/// Changes one to four words, and closes most of the blocks again; of others it mends one sum or
+/// none.
 pub fn change_words(blocks: &mut [Vec<u16>], random: &mut Random) {
     for _ in 0..random.between(1, 4) {
         let place = random.below(blocks.len());
@@ -378,8 +480,10 @@ pub fn change_words(blocks: &mut [Vec<u16>], random: &mut Random) {
             2 => random.below(1_026) as u16,
             _ => random.word(),
         };
-        if !random.once_in(5) {
-            sheet::close(&mut blocks[place]);
+        match random.below(10) {
+            0 => (),
+            1 => mend_one(&mut blocks[place], random),
+            _ => sheet::close(&mut blocks[place]),
         }
     }
 }
@@ -388,24 +492,28 @@ pub fn change_words(blocks: &mut [Vec<u16>], random: &mut Random) {
 pub fn mended_by_steps(nodes: usize, random: &mut Random) -> Vec<u8> {
     let len = sheet::block_count(nodes) * BLOCK_BYTES;
     let mut blocks = sheet::blocks_of(&random.bytes(len));
-    let mending = random.below(5);
+    let mending = random.below(6);
     for (place, block) in blocks.iter_mut().enumerate() {
-        if mending >= 2 {
+        if mending >= 3 {
             block[0] = place as u16;
         }
         for (index, word) in block.iter_mut().enumerate() {
             match sheet::fixed_word(nodes, place, index) {
-                Some(value) if mending >= 4 => *word = value,
+                Some(value) if mending >= 5 => *word = value,
                 _ => (),
             }
         }
     }
-    if mending >= 3 {
+    if mending >= 4 {
         blocks[0][2] = nodes as u16;
         blocks[0][3] = random.between(1, 1_024) as u16;
     }
-    if mending >= 1 {
-        blocks.iter_mut().for_each(|block| sheet::close(block));
+    for block in &mut blocks {
+        match mending {
+            0 => (),
+            1 => mend_one(block, random),
+            _ => sheet::close(block),
+        }
     }
     sheet::bytes_of(&blocks)
 }

@@ -1,7 +1,7 @@
 //! The sheets of the folder `samples/`, good and damaged, and a Newick text, each made anew in the
 //! same way.
 
-use crate::files::old_file;
+use crate::files::{old_file, old_sums};
 use crate::half_widths::MOST_HALF_WIDTH;
 use crate::listing::listing;
 use crate::newick::{text_of, Tree};
@@ -60,9 +60,11 @@ pub fn samples() -> Vec<Sample> {
     let damaged = [
         ("damaged-length", a_byte_short()),
         ("damaged-bit", a_bit_flipped()),
+        ("damaged-swap", words_exchanged()),
+        ("old-sum", old_sums(&sheet::write(&sheet::example()))),
+        ("old-p6", old_file(&p6())),
         ("damaged-order", blocks_exchanged()),
         ("damaged-header", a_node_too_many()),
-        ("old-p6", old_file(&p6())),
         ("damaged-stray", an_unnamed_tape()),
         ("damaged-ring", copies_of_each_other()),
         ("damaged-width", a_shelf_mark_too_long()),
@@ -215,6 +217,14 @@ fn a_bit_flipped() -> Vec<u8> {
     sheet::bytes_of(&blocks)
 }
 
+/// The example with the two words of the root's tape number exchanged: refused 10.
+fn words_exchanged() -> Vec<u8> {
+    let mut blocks = sheet::blocks_of(&sheet::write(&sheet::example()));
+    let (place, index) = sheet::row_start(0);
+    blocks[place].swap(index + 2, index + 3);
+    sheet::bytes_of(&blocks)
+}
+
 /// The sheet of 51 nodes with its two blocks of rows exchanged: refused 11.
 fn blocks_exchanged() -> Vec<u8> {
     let mut blocks = sheet::blocks_of(&sheet::write(&binary(51)));
@@ -257,7 +267,7 @@ mod tests {
     use crate::table::{children_of, level_by_level, refusal};
 
     /// The first line of each sample's listing.
-    const FIRST_LINES: [(&str, &str); 17] = [
+    const FIRST_LINES: [(&str, &str); 19] = [
         ("example", "sheet 3 2 3 -1 2"),
         ("p6", "sheet 15 3 4 -18 18"),
         ("p7", "sheet 23 4 2 -12 10"),
@@ -269,9 +279,11 @@ mod tests {
         ("nodes-51", "sheet 51 6 7 -98 73"),
         ("damaged-length", "refused 9"),
         ("damaged-bit", "refused 10"),
+        ("damaged-swap", "refused 10"),
+        ("old-sum", "refused 10"),
+        ("old-p6", "refused 10"),
         ("damaged-order", "refused 11"),
         ("damaged-header", "refused 12"),
-        ("old-p6", "refused 12"),
         ("damaged-stray", "refused 5"),
         ("damaged-ring", "refused 14"),
         ("damaged-width", "refused 17"),

@@ -14,7 +14,9 @@ pub const ROW_WORDS: usize = 5;
 /// Block 0's word 1.
 const LAYOUT_NUMBER: u16 = 1;
 
-/// The word with which a block's sum comes to zero.
+/// A block's check words: the weighted sum of the words before it, and the word with which the
+/// plain sum of all words comes to zero.
+pub const WEIGHTED_WORD: usize = 254;
 pub const CLOSING_WORD: usize = 255;
 
 const MOST_NODES: u16 = 1_024;
@@ -88,7 +90,7 @@ fn contents(
         return Err(9);
     }
     let blocks = blocks_of(file);
-    if !blocks.iter().all(|block| sum(block) == 0) {
+    if !blocks.iter().all(|block| sound(block)) {
         return Err(10);
     }
     if !(0..blocks.len()).all(|place| usize::from(blocks[place][0]) == place) {
@@ -152,8 +154,32 @@ fn sum(words: &[u16]) -> u16 {
     (words.iter().map(|&word| u32::from(word)).sum::<u32>() % 65_536) as u16
 }
 
-/// Sets the closing word so that the block is sound.
+/// The sum of words, each times one more than its index, modulo 65,536.
+fn weighted_sum(words: &[u16]) -> u16 {
+    let weighted = (1..)
+        .zip(words)
+        .map(|(weight, &word)| weight * u32::from(word));
+    (weighted.sum::<u32>() % 65_536) as u16
+}
+
+/// Whether both of a block's sums are right.
+fn sound(block: &[u16]) -> bool {
+    weighted_sum(&block[..WEIGHTED_WORD]) == block[WEIGHTED_WORD] && sum(block) == 0
+}
+
+/// Sets both check words so that the block is sound.
 pub fn close(block: &mut [u16]) {
+    mend_weighted(block);
+    mend_plain(block);
+}
+
+/// Makes the weighted sum right by its word, and leaves the plain one as it comes to be.
+pub fn mend_weighted(block: &mut [u16]) {
+    block[WEIGHTED_WORD] = weighted_sum(&block[..WEIGHTED_WORD]);
+}
+
+/// Makes the plain sum right by the closing word, whatever the weighted one is.
+pub fn mend_plain(block: &mut [u16]) {
     let open_sum = sum(&block[..CLOSING_WORD]);
     block[CLOSING_WORD] = ((65_536 - u32::from(open_sum)) % 65_536) as u16;
 }
@@ -179,11 +205,11 @@ fn row_count(nodes: usize, place: usize) -> usize {
 }
 
 /// The value of a word that the layout fixes for this many nodes; nothing for n and D, for the
-/// words of rows, and for the closing word.
+/// words of rows, and for the check words.
 pub fn fixed_word(nodes: usize, place: usize, index: usize) -> Option<u16> {
     match (place, index) {
         (_, 0) => Some(place as u16),
-        (_, CLOSING_WORD) => None,
+        (_, WEIGHTED_WORD | CLOSING_WORD) => None,
         (0, 1) => Some(LAYOUT_NUMBER),
         (0, 2 | 3) => None,
         (0, _) => Some(0),
@@ -278,7 +304,7 @@ pub fn example() -> Sheet {
 #[cfg(test)]
 mod tests {
     use super::*;
-    use crate::files::{old_file, sheet_of_words};
+    use crate::files::{old_file, old_file_closed, old_sums, sheet_of_words};
     use crate::random::Random;
     use crate::shapes::chain;
     use crate::table::NONE;
@@ -290,7 +316,7 @@ mod tests {
         let blocks = blocks_of(&file);
         assert_eq!(blocks.len(), 2);
         assert_eq!(blocks[0][..5], [0, 1, 3, 3, 0]);
-        assert_eq!(blocks[0][255], 65_529);
+        assert_eq!(blocks[0][254..], [23, 65_506]);
         let rows = [
             [1, NONE, 500, 0, 0],
             [NONE, 2, 501, 0, 0],
@@ -298,7 +324,7 @@ mod tests {
         ];
         assert_eq!(blocks[1][..2], [1, 3]);
         assert_eq!(blocks[1][2..17], rows.concat());
-        assert_eq!(blocks[1][255], 64_030);
+        assert_eq!(blocks[1][254..], [15_029, 49_001]);
         let read = read(&file, &[9; 7], &[8; 6], &[7; 5]);
         assert_eq!((read.number, read.nodes, read.separation), (0, 3, 3));
         assert_eq!(read.table[..6], sheet.table);
@@ -316,7 +342,33 @@ mod tests {
         assert_eq!(blocks[1][2..7], first);
         assert_eq!(blocks[1][11], 256);
         assert_eq!(blocks[1][12..17], last);
-        assert_eq!(blocks[1][17..255], [0; 238]);
+        assert_eq!(blocks[1][17..254], [0; 237]);
+    }
+
+    #[test]
+    fn sums_of_words() {
+        assert_eq!((sum(&[]), weighted_sum(&[])), (0, 0));
+        assert_eq!(weighted_sum(&[5, 0, 7]), 5 + 21);
+        assert_eq!(weighted_sum(&[0, 32_768, 0, 16_384]), 0);
+        // The greatest words are one less than 0: 1 + 2 + ... + 254 of them.
+        assert_eq!(weighted_sum(&[65_535; 254]), (65_536_u32 - 32_385) as u16);
+        assert_eq!(sum(&[65_535; 254]), (65_536_u32 - 254) as u16);
+    }
+
+    #[test]
+    fn each_sum_is_mended_alone() {
+        let blocks = blocks_of(&write(&example()));
+        let mut block = blocks[1].clone();
+        block[4] += 1;
+        mend_plain(&mut block);
+        assert_eq!((block[254], block[255]), (15_029, 49_000));
+        assert!(!sound(&block));
+        mend_weighted(&mut block);
+        assert_eq!((block[254], block[255]), (15_034, 49_000));
+        assert!(!sound(&block));
+        mend_plain(&mut block);
+        assert_eq!((block[254], block[255]), (15_034, 48_995));
+        assert!(sound(&block));
     }
 
     #[test]
@@ -338,8 +390,13 @@ mod tests {
         assert_eq!(row_start(50), (2, 2));
         assert_eq!(row_start(49), (1, 247));
         assert_eq!(fixed_word(50, 1, 251), None);
-        for index in 252..255 {
-            assert_eq!(fixed_word(50, 1, index), Some(0));
+        for place in 0..2 {
+            for index in 252..254 {
+                assert_eq!(fixed_word(50, place, index), Some(0));
+            }
+            for index in 254..256 {
+                assert_eq!(fixed_word(50, place, index), None);
+            }
         }
     }
 
@@ -366,12 +423,28 @@ mod tests {
         let mut flipped = file.clone();
         flipped[600] ^= 1;
         assert_eq!(number(&flipped), 10);
-        let changed = |place: usize, index: usize, value: u16| {
+        let changed_and = |mend: fn(&mut [u16]), place: usize, index: usize, value: u16| {
             let mut blocks = blocks_of(&file);
             blocks[place][index] = value;
-            close(&mut blocks[place]);
+            mend(&mut blocks[place]);
             number(&bytes_of(&blocks))
         };
+        for mend in [mend_weighted, mend_plain] {
+            assert_eq!(changed_and(mend, 0, 0, 1), 10);
+            assert_eq!(changed_and(mend, 0, 253, 1), 10);
+            assert_eq!(changed_and(mend, 1, 4, 501), 10);
+        }
+        assert_eq!(changed_and(mend_plain, 1, 254, 0), 10);
+        assert_eq!(changed_and(mend_plain, 1, 255, 0), 0);
+        assert_eq!(changed_and(mend_weighted, 1, 254, 0), 0);
+        assert_eq!(changed_and(mend_weighted, 1, 255, 0), 10);
+        // 32,768 is nothing at an even weight; at an odd one the weighted sum changes by it too.
+        assert_eq!(changed_and(mend_plain, 1, 5, 32_768), 0);
+        assert_eq!(changed_and(mend_weighted, 1, 6, 32_768), 0);
+        let mut swapped = blocks_of(&file);
+        swapped[1].swap(4, 5);
+        assert_eq!(number(&bytes_of(&swapped)), 10);
+        let changed = |place, index, value| changed_and(close, place, index, value);
         assert_eq!(changed(1, 0, 2), 11);
         assert_eq!(changed(0, 1, 0), 12);
         assert_eq!(changed(0, 1, 1), 0);
@@ -381,12 +454,16 @@ mod tests {
         assert_eq!(changed(0, 3, 0), 12);
         assert_eq!(changed(0, 3, 1_024), 0);
         assert_eq!(changed(0, 3, 1_025), 12);
-        assert_eq!(changed(0, 254, 1), 12);
+        assert_eq!(changed(0, 253, 1), 12);
+        assert_eq!(changed(0, 254, 1), 0);
         assert_eq!(changed(1, 1, 50), 12);
         assert_eq!(changed(1, 16, 65_535), 0);
         assert_eq!(changed(1, 17, 1), 12);
-        assert_eq!(changed(1, 254, 1), 12);
-        assert_eq!(number(&old_file(&example())), 12);
+        assert_eq!(changed(1, 253, 1), 12);
+        assert_eq!(changed(1, 254, 1), 0);
+        assert_eq!(number(&old_sums(&file)), 10);
+        assert_eq!(number(&old_file(&example())), 10);
+        assert_eq!(number(&old_file_closed(&example())), 12);
         assert_eq!(read(&file, &[0; 5], &[0; 6], &[0; 3]).number, 7);
         assert_eq!(read(&file, &[0; 6], &[0; 5], &[0; 3]).number, 7);
         assert_eq!(read(&file, &[0; 6], &[0; 6], &[0; 2]).number, 7);

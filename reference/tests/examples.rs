@@ -75,6 +75,7 @@ fn lists(mut program: Command) {
         "damaged-stray",
         "damaged-ring",
         "damaged-width",
+        "damaged-swap",
         "old-p6",
     ] {
         let printed = printed_for(&format!("samples/{sample}.sheet"), &mut program);

@@ -8,7 +8,10 @@ use reference::ffi;
 use reference::files::{self, edges_of_blocks, sheet_of_words};
 use reference::lent::Lent;
 use reference::run::Run;
-use reference::sheet::{self, BLOCK_BYTES, BLOCK_ROWS, BLOCK_WORDS, CLOSING_WORD, MOST_BLOCKS};
+use reference::shapes::random_table;
+use reference::sheet::{
+    self, Sheet, BLOCK_BYTES, BLOCK_ROWS, BLOCK_WORDS, CLOSING_WORD, MOST_BLOCKS, WEIGHTED_WORD,
+};
 use std::fmt;
 
 /// The lengths of the slices that are lent.
@@ -60,6 +63,17 @@ impl fmt::Display for Call<'_> {
 /// The greatest count of nodes in a file of so many blocks.
 fn most_nodes(blocks: usize) -> usize {
     (BLOCK_ROWS * (blocks - 1)).min(1_024)
+}
+
+/// By how much the plain and the weighted sum of words have changed, modulo 65,536.
+fn changes(before: &[u16], after: &[u16]) -> [u32; 2] {
+    let (mut plain, mut weighted) = (0_i64, 0_i64);
+    for (weight, (&old, &new)) in (1_i64..).zip(before.iter().zip(after)) {
+        let change = i64::from(new) - i64::from(old);
+        plain += change;
+        weighted += weight * change;
+    }
+    [plain, weighted].map(|change| change.rem_euclid(65_536) as u32)
 }
 
 struct Comparison {
@@ -121,8 +135,10 @@ impl Comparison {
         let file = sheet::write(&sheet);
         let blocks = sheet::blocks_of(&file);
         let run = &self.run;
-        run.expect("check 0", blocks[0][CLOSING_WORD], 65_529, &"the example");
-        run.expect("check 1", blocks[1][CLOSING_WORD], 64_030, &"the example");
+        for (block, check_words) in blocks.iter().zip([[23, 65_506], [15_029, 49_001]]) {
+            let got = &block[WEIGHTED_WORD..];
+            run.expect_slice("check words", got, &check_words, &"the example");
+        }
         let exact = Lengths::exact(3);
         self.read_as(0, "the example", &file, exact);
         for short in [
@@ -177,16 +193,208 @@ impl Comparison {
             .end_section("sound files of every size, slices short, exact and longer");
     }
 
+    /// Two files of three blocks, with their counts of nodes: any words in rows that fill both
+    /// blocks, and the sheet of a tree that does not fill the second.
+    fn three_blocks(&mut self) -> [(usize, Vec<u8>); 2] {
+        let random = &mut self.run.random;
+        let nodes = random.between(60, 99);
+        let tree = Sheet {
+            table: random_table(nodes, random),
+            half_widths: (0..nodes).map(|_| random.below(257) as u16).collect(),
+            ..sheet_of_words(nodes, random)
+        };
+        let files = [(100, sheet_of_words(100, random)), (nodes, tree)];
+        files.map(|(nodes, sheet)| {
+            let file = sheet::write(&sheet);
+            assert_eq!(file.len(), 3 * BLOCK_BYTES);
+            (nodes, file)
+        })
+    }
+
     fn single_bits(&mut self) {
-        let mut file = sheet::write(&sheet_of_words(100, &mut self.run.random));
-        assert_eq!(file.len(), 3 * BLOCK_BYTES);
-        for bit in 0..8 * file.len() {
-            file[bit / 8] ^= 1 << (bit % 8);
-            self.read_as(10, "one bit", &file, Lengths::exact(100));
-            file[bit / 8] ^= 1 << (bit % 8);
+        for (nodes, mut file) in self.three_blocks() {
+            for bit in 0..8 * file.len() {
+                file[bit / 8] ^= 1 << (bit % 8);
+                self.read_as(10, "one bit", &file, Lengths::exact(nodes));
+                file[bit / 8] ^= 1 << (bit % 8);
+            }
+            self.read_as(0, "every bit mended", &file, Lengths::exact(nodes));
         }
         self.run
-            .end_section("every single bit of a file of three blocks");
+            .end_section("every single bit of files of three blocks");
+    }
+
+    fn single_words(&mut self) {
+        for (nodes, file) in self.three_blocks() {
+            let mut blocks = sheet::blocks_of(&file);
+            for place in 0..blocks.len() {
+                for index in 0..BLOCK_WORDS {
+                    let word = blocks[place][index];
+                    let random = &mut self.run.random;
+                    let values = [
+                        0,
+                        1,
+                        65_535,
+                        word.wrapping_add(1),
+                        word.wrapping_sub(1),
+                        !word,
+                        word ^ 0x8000,
+                        word.swap_bytes(),
+                        blocks[place][index.saturating_sub(1)],
+                        blocks[place][(index + 1).min(BLOCK_WORDS - 1)],
+                        random.word(),
+                        random.word(),
+                        random.word(),
+                    ];
+                    for value in values.into_iter().filter(|&value| value != word) {
+                        blocks[place][index] = value;
+                        let file = sheet::bytes_of(&blocks);
+                        self.read_as(10, "one word", &file, Lengths::exact(nodes));
+                    }
+                    blocks[place][index] = word;
+                }
+            }
+        }
+        self.run
+            .end_section("every single word of files of three blocks, to many values");
+    }
+
+    /// Two words of a block exchanged: all neighbours, then any two. The plain sum stays right.
+    fn swapped_words(&mut self) {
+        for (nodes, file) in self.three_blocks() {
+            let blocks = sheet::blocks_of(&file);
+            let mut unequal = 0;
+            for place in 0..blocks.len() {
+                for index in 0..CLOSING_WORD {
+                    let swapped = self.swapped(&blocks, place, index, index + 1, nodes);
+                    unequal += usize::from(swapped);
+                }
+                for _ in 0..1_500 {
+                    let one = self.run.random.below(WEIGHTED_WORD);
+                    let other = self.run.random.below(WEIGHTED_WORD);
+                    self.swapped(&blocks, place, one, other, nodes);
+                }
+            }
+            self.run.note(&format!(
+                "{unequal} unequal neighbours exchanged, all refused 10"
+            ));
+        }
+        self.run
+            .end_section("two words of a block exchanged, all neighbours and any two");
+    }
+
+    /// One exchange; whether it makes the weighted sum of the words before the check words wrong.
+    fn swapped(
+        &mut self,
+        blocks: &[Vec<u16>],
+        place: usize,
+        one: usize,
+        other: usize,
+        nodes: usize,
+    ) -> bool {
+        let mut swapped = blocks.to_vec();
+        swapped[place].swap(one, other);
+        let file = sheet::bytes_of(&swapped);
+        if one.max(other) >= WEIGHTED_WORD {
+            self.read(&file, Lengths::exact(nodes));
+            return false;
+        }
+        let apart = i64::from(blocks[place][one]) - i64::from(blocks[place][other]);
+        let wrong = apart * (one as i64 - other as i64) % 65_536 != 0;
+        if wrong || swapped[place] == blocks[place] {
+            let wanted = if wrong { 10 } else { 0 };
+            self.read_as(wanted, "two words exchanged", &file, Lengths::exact(nodes));
+        } else {
+            self.read(&file, Lengths::exact(nodes));
+        }
+        wrong
+    }
+
+    /// One word changed, then several at random, and one of the two sums mended for it; where the
+    /// other has not come right by that, the number is 10.
+    fn one_sum_mended(&mut self) {
+        for (nodes, file) in self.three_blocks() {
+            let blocks = sheet::blocks_of(&file);
+            for place in 0..blocks.len() {
+                for index in 0..BLOCK_WORDS {
+                    for change in [1, 2, 255, 256, 16_384, 32_768, 65_535] {
+                        let mut changed = blocks.clone();
+                        changed[place][index] = changed[place][index].wrapping_add(change);
+                        self.mended_in_part(&blocks[place], changed, place, nodes);
+                    }
+                }
+            }
+        }
+        for _ in 0..6_000 {
+            let random = &mut self.run.random;
+            let nodes = random.between(1, 200);
+            let file = sheet::write(&sheet_of_words(nodes, random));
+            let mut blocks = sheet::blocks_of(&file);
+            let place = random.below(blocks.len());
+            let before = blocks[place].clone();
+            files::damage(&mut blocks[place][..WEIGHTED_WORD], random);
+            self.mended_in_part(&before, blocks, place, nodes);
+        }
+        self.run
+            .end_section("words changed and one of the two sums mended");
+    }
+
+    /// `before` is the block at this place while it was sound.
+    fn mended_in_part(
+        &mut self,
+        before: &[u16],
+        mut blocks: Vec<Vec<u16>>,
+        place: usize,
+        nodes: usize,
+    ) {
+        let damaged = blocks[place].clone();
+        for mend in [sheet::mend_weighted, sheet::mend_plain] {
+            blocks[place].clone_from(&damaged);
+            mend(&mut blocks[place]);
+            let after = &blocks[place];
+            let [plain, _] = changes(before, after);
+            let [_, weighted] = changes(&before[..WEIGHTED_WORD], &after[..WEIGHTED_WORD]);
+            let stored = after[WEIGHTED_WORD].wrapping_sub(before[WEIGHTED_WORD]);
+            let sound = plain == 0 && weighted == u32::from(stored);
+            let file = sheet::bytes_of(&blocks);
+            let number = self.read(&file, Lengths::exact(nodes));
+            self.run
+                .expect("refused 10", number == 10, !sound, &"one sum mended");
+        }
+    }
+
+    /// Sound files whose check words are at the ends of their range.
+    fn check_words(&mut self) {
+        let values = [0, 1, 255, 256, 32_767, 32_768, 65_535];
+        for nodes in edges_of_blocks().chain(2..=9) {
+            for weighted in values {
+                for closing in values {
+                    let check_words = [weighted, closing];
+                    let random = &mut self.run.random;
+                    let mut sheet = sheet_of_words(nodes, random);
+                    files::give_check_words(&mut sheet, check_words, random);
+                    let file = sheet::write(&sheet);
+                    for block in &sheet::blocks_of(&file)[1..] {
+                        let got = &block[WEIGHTED_WORD..];
+                        self.run
+                            .expect_slice("check words", got, &check_words, &"made for them");
+                    }
+                    self.read_as(0, "check words", &file, Lengths::exact(nodes));
+                }
+            }
+        }
+        for word in [0, 1, 255, 256, 32_768, 65_535] {
+            for nodes in edges_of_blocks() {
+                let mut sheet = sheet_of_words(nodes, &mut self.run.random);
+                sheet.table.fill(word);
+                sheet.tapes.fill(word);
+                sheet.half_widths.fill(word);
+                let file = sheet::write(&sheet);
+                self.read_as(0, "rows of one word", &file, Lengths::exact(nodes));
+            }
+        }
+        self.run
+            .end_section("check words of all sizes, and rows of one word");
     }
 
     /// Whole blocks moved about, as they are and with their places mended.
@@ -236,7 +444,7 @@ impl Comparison {
             .end_section("blocks swapped, missing, doubled and reordered");
     }
 
-    /// Each word that the layout fixes, changed in several ways with the check mended.
+    /// Each word that the layout fixes, changed in several ways with both checks mended.
     fn fixed_words(&mut self) {
         for nodes in [1, 5, 49, 50, 51, 100, 101, 1_001, 1_024] {
             let file = sheet::write(&sheet_of_words(nodes, &mut self.run.random));
@@ -268,7 +476,7 @@ impl Comparison {
             self.read_as(0, "all words mended", &file, Lengths::exact(nodes));
         }
         self.run
-            .end_section("each fixed word changed with the check mended");
+            .end_section("each fixed word changed with both checks mended");
     }
 
     /// n and D at their bounds in files of every length.
@@ -320,16 +528,39 @@ impl Comparison {
             .end_section("half-widths that are carried unjudged");
     }
 
-    /// Files with four words a row, 63 rows to a block and 0 as word 1 of block 0; then with
-    /// today's word 1, so that what is left to tell them apart is the rows.
+    /// Files with four words a row, 63 rows to a block, 0 as word 1 of block 0 and only the plain
+    /// sums right; then with both sums right, and with today's word 1 too, so that what is left to
+    /// tell them apart is the rows.
     fn old_files(&mut self) {
         for nodes in 1..=1_024 {
             let sheet = sheet_of_words(nodes, &mut self.run.random);
             let lengths = Lengths::exact(nodes);
-            self.read_as(12, "an old file", &files::old_file(&sheet), lengths);
+            self.read_as(10, "an old file", &files::old_file(&sheet), lengths);
+            let closed = files::old_file_closed(&sheet);
+            self.read_as(12, "an old file with both sums", &closed, lengths);
             self.read(&files::old_file_renamed(&sheet), lengths);
         }
         self.run.end_section("files of the old layout");
+    }
+
+    /// Files of today's layout with 0 as word 254 and only the plain sums right: in all blocks, in
+    /// the first, in the last, and in any.
+    fn old_sums(&mut self) {
+        for nodes in 1..=1_024 {
+            let file = sheet::write(&sheet_of_words(nodes, &mut self.run.random));
+            let lengths = Lengths::exact(nodes);
+            self.read_as(10, "the old sums", &files::old_sums(&file), lengths);
+            let blocks = sheet::blocks_of(&file);
+            let any = self.run.random.below(blocks.len());
+            for place in [0, any, blocks.len() - 1] {
+                let mut old = blocks.clone();
+                files::old_sum(&mut old[place]);
+                let wanted = if old[place] == blocks[place] { 0 } else { 10 };
+                let file = sheet::bytes_of(&old);
+                self.read_as(wanted, "a block's old sum", &file, lengths);
+            }
+        }
+        self.run.end_section("files of the old sums");
     }
 
     fn lengths(&mut self) {
@@ -371,7 +602,7 @@ impl Comparison {
         self.run.end_section("random bytes, mended by steps");
     }
 
-    /// Sound files with one to four words changed, each block's check mended or not.
+    /// Sound files with one to four words changed, each block's checks mended or not.
     fn damaged_files(&mut self) {
         for _ in 0..30_000 {
             let random = &mut self.run.random;
@@ -402,14 +633,19 @@ fn the_sheet_reader_agrees_with_the_model() {
     comparison.example();
     comparison.sound_files();
     comparison.single_bits();
+    comparison.single_words();
+    comparison.swapped_words();
+    comparison.one_sum_mended();
+    comparison.check_words();
     comparison.moved_blocks();
     comparison.fixed_words();
     comparison.bounds();
     comparison.half_widths();
     comparison.old_files();
+    comparison.old_sums();
     comparison.lengths();
     comparison.random_files();
     comparison.damaged_files();
     comparison.run.expect_often(&[0, 7, 9, 10, 11, 12], 5_000);
-    comparison.run.finish(120_000);
+    comparison.run.finish(200_000);
 }

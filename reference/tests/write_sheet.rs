@@ -6,14 +6,16 @@
 //! read.
 
 use reference::ffi::{self, TEXT_ROOM};
-use reference::files::{edges_of_blocks, random_sheet, random_size, sheet_of_words};
+use reference::files::{
+    edges_of_blocks, give_check_words, random_sheet, random_size, sheet_of_words,
+};
 use reference::half_widths::{self, too_great};
 use reference::lent::Lent;
 use reference::listing::number_of;
 use reference::random::Random;
 use reference::run::{Run, Shown};
 use reference::shapes::{self, random_table};
-use reference::sheet::{self, Sheet, Written, BLOCK_BYTES, BLOCK_ROWS, CLOSING_WORD};
+use reference::sheet::{self, Sheet, Written, BLOCK_BYTES, BLOCK_ROWS, WEIGHTED_WORD};
 use reference::table::{self, NONE};
 use std::collections::HashSet;
 use std::fmt;
@@ -175,9 +177,11 @@ impl Comparison {
     fn example(&mut self) {
         let sheet = sheet::example();
         let blocks = sheet::blocks_of(&self.file_of(&sheet));
-        let run = &self.run;
-        run.expect("check 0", blocks[0][CLOSING_WORD], 65_529, &"the example");
-        run.expect("check 1", blocks[1][CLOSING_WORD], 64_030, &"the example");
+        for (block, check_words) in blocks.iter().zip([[23, 65_506], [15_029, 49_001]]) {
+            let got = &block[WEIGHTED_WORD..];
+            self.run
+                .expect_slice("check words", got, &check_words, &"the example");
+        }
         self.write_as(7, "the example", &sheet, 1_023);
         self.run.end_section("the example of the paper");
     }
@@ -305,26 +309,23 @@ impl Comparison {
                 sheet.tapes.fill(word);
                 self.file_of(&sheet);
             }
-            for closing_word in [0, 1, 255, 256, 32_768, 65_535] {
+            let values = [0, 1, 255, 256, 32_768, 65_535];
+            for check_words in values.into_iter().flat_map(|a| values.map(|b| [a, b])) {
+                let random = &mut self.run.random;
                 let mut sheet = Sheet {
-                    tapes: sheet_of_words(nodes, &mut self.run.random).tapes,
-                    ..any_sheet(nodes, &mut self.run.random)
+                    tapes: sheet_of_words(nodes, random).tapes,
+                    ..any_sheet(nodes, random)
                 };
-                let blocks = sheet::blocks_of(&sheet::write(&sheet));
-                for (rows, block) in sheet.tapes.chunks_mut(2 * BLOCK_ROWS).zip(&blocks[1..]) {
-                    let tape_word = &mut rows[self.run.random.below(rows.len())];
-                    let rest = block[CLOSING_WORD].wrapping_add(*tape_word);
-                    *tape_word = rest.wrapping_sub(closing_word);
-                }
+                give_check_words(&mut sheet, check_words, random);
                 for block in &sheet::blocks_of(&self.file_of(&sheet))[1..] {
-                    let word = block[CLOSING_WORD];
+                    let got = &block[WEIGHTED_WORD..];
                     self.run
-                        .expect("closing word", word, closing_word, &"tapes made for it");
+                        .expect_slice("check words", got, &check_words, &"tapes made for them");
                 }
             }
         }
         self.run
-            .end_section("tapes of one word, and tapes that give a closing word");
+            .end_section("tapes of one word, and tapes that give two check words");
     }
 
     /// Half-widths at the bound and above it, on the first nodes, the last, those at the ends of

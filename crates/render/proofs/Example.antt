@@ -10,10 +10,10 @@ use Rattle.rule.specs.Join.{evenly}
 use Rattle.rule.specs.Rule.{drawn}
 use Rattle.rule.specs.Result.{place, placesOf, levelsOf}
 use Rattle.sheet.specs.Below.{total, every, joined}
-use Rattle.sheet.specs.Block.{wordAt, bytesOf, blockAt, wordSum, sound, closing, inPlace}
+use Rattle.sheet.specs.Block.{wordAt, bytesOf, blockAt, wordSum, weightedSum, sound, closing, inPlace}
 use Rattle.sheet.specs.Layout.{countWord, usedWords, fixedHold}
 use Rattle.sheet.specs.Read.{nodesOf, separationOf, tableOf, tapesOf, halfWidthsOf, fileNumber}
-use Rattle.sheet.specs.File.{row, content, padded, closed, blockOf, fileOf}
+use Rattle.sheet.specs.File.{row, content, padded, weighed, closed, blockOf, fileOf}
 use Rattle.sheet.proofs.Example.{links, tapes, halfWidths}
 use Rattle.lines.specs.Decimal.{decimalWithin, decimal, signedDecimal}
 use Rattle.lines.specs.Listing.{sheetLine, nodeLine, nodeLines}
@@ -30,7 +30,7 @@ lines = firstLine ++ (rootLine ++ (leftLine ++ rightLine))
 
 file-read : (fileNumber file ≡ 0) × (separationOf file ≡ 3) × (tableOf file (nodesOf file) ≡ links) × (tapesOf file (nodesOf file) ≡ tapes)
     × (halfWidthsOf file (nodesOf file) ≡ halfWidths)
-unfolding total every joined wordAt bytesOf blockAt wordSum sound closing inPlace countWord usedWords fixedHold row content padded closed blockOf fileOf fileNumber
+unfolding total every joined wordAt bytesOf blockAt wordSum weightedSum sound closing inPlace countWord usedWords fixedHold row content padded weighed closed blockOf fileOf fileNumber
 file-read = (refl, refl, refl, refl, refl)
 
 table-printed : tableText 3 links tapes halfWidths ≡ lines

@@ -30,6 +30,48 @@ unfolding total
 total-cong zero f g h = refl
 total-cong (suc n) f g h = ap₂ (λ (a b : ℕ). a + b) (total-cong n f g (λ k l. h k (further l))) (h n (le-refl (suc n)))
 
+-- two sums that differ in one summand
+pub total-but-one : (n k : ℕ) (f g : ℕ → ℕ) → k < n → ((j : ℕ) → j < n → (j ≡ k → ⊥) → f j ≡ g j) → total n f + g k ≡ total n g + f k
+unfolding total
+total-but-one zero k f g l h = absurd (not-suc-le-zero l)
+total-but-one (suc n) k f g l h =
+    ⊎-elim (λ e. last e) (λ lt. earlier lt (total-but-one n k f g lt (λ j m d. h j (further m) d))) (eq-or-lt-of-le (le-of-suc-le-suc l))
+  where
+    last : k ≡ n → total n f + f n + g k ≡ total n g + g n + f k
+    last e = rw e (omega (arith, total-cong n f g (λ j m. h j (further m) (λ q. omega arith))))
+
+    earlier : k < n → total n f + g k ≡ total n g + f k → total n f + f n + g k ≡ total n g + g n + f k
+    earlier lt ih = omega (arith, h n (le-refl (suc n)) (λ q. omega arith))
+
+-- a sum by its first summand, of two functions, over numbers that are parted in two, and over groups of c of them
+pub total-first : (n : ℕ) (f : ℕ → ℕ) → total (suc n) f ≡ f 0 + total n (λ k. f (suc k))
+unfolding total
+total-first zero f = omega arith
+total-first (suc n) f = omega (arith, total-first n f)
+
+pub total-both : (n : ℕ) (f g : ℕ → ℕ) → total n (λ k. f k + g k) ≡ total n f + total n g
+unfolding total
+total-both zero f g = refl
+total-both (suc n) f g = omega (arith, total-both n f g)
+
+pub total-add : (m n : ℕ) (f : ℕ → ℕ) → total (m + n) f ≡ total m f + total n (λ k. f (m + k))
+unfolding total
+total-add m zero f = rw (add-zero m) (sym (add-zero (total m f)))
+total-add m (suc n) f = rw (add-suc, total) (omega (arith, total-add m n f))
+
+pub total-groups : (c n : ℕ) (f : ℕ → ℕ) → total (c * n) f ≡ total c (λ j. total n (λ i. f (c * i + j)))
+unfolding total
+total-groups c zero f = rw mul-zero (sym (total-none c))
+  where
+    total-none : (m : ℕ) → total m (λ j. 0) ≡ 0
+    total-none zero = refl
+    total-none (suc m) = omega (arith, total-none m)
+total-groups c (suc n) f =
+    ap (λ (m : ℕ). total m f) (mul-suc c n)
+    ∙ total-add (c * n) c f
+    ∙ ap (λ (before : ℕ). before + total c (λ j. f (c * n + j))) (total-groups c n f)
+    ∙ sym (total-both c (λ j. total n (λ i. f (c * i + j))) (λ j. f (c * n + j)))
+
 and-false : (b : Bool) → b && false ≡ false
 and-false true = refl
 and-false false = refl

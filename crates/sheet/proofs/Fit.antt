@@ -3,11 +3,11 @@ use Prim.Native.Nat.{ℕ, zero, suc, _+_, _-_, _*_, _<_}
 use native.Mathlib.Nat.{le-refl}
 use native.Mathlib.Omega.{arith}
 use mathlib.Core.List.{List, [], _∷_, _++_}
-use lib.ListN.{length, replicate}
+use lib.ListN.{length, getD, replicate}
 use Rattle.sheet.specs.Below.{joined}
-use Rattle.sheet.specs.Block.{wordLimit, closingPlace, bytesOf, closing}
+use Rattle.sheet.specs.Block.{wordLimit, weightedPlace, bytesOf, weightedSum, closing}
 use Rattle.sheet.specs.Layout.{blockRows, blocksFor, rowsIn, countWord}
-use Rattle.sheet.specs.File.{row, content, padded, closed, blockOf, fileOf, EachBelow, Contents}
+use Rattle.sheet.specs.File.{row, content, padded, weighed, closed, blockOf, fileOf, EachBelow, Contents}
 use Rattle.sheet.proofs.Below.{further}
 
 module _ (m : ℕ) (positive : 0 < m) where
@@ -69,14 +69,17 @@ module _ (n separation : ℕ) (table tapes halfWidths : List ℕ) (held : Conten
   body-below b l (suc (suc i)) = content-below b i
 
   block-below : (b : ℕ) → b < blocksFor n → EachBelow wordLimit (blockOf n separation table tapes halfWidths b)
-  unfolding blockOf closed padded closing
+  unfolding blockOf closed weighed padded closing weightedSum
   block-below b l =
       let some : 0 < wordLimit = omega arith in
       let body : List ℕ = b ∷ countWord n b ∷ content n separation table tapes halfWidths b in
-      let zeros : List ℕ = replicate (closingPlace - length body) 0 in
-      append-below wordLimit some (body ++ zeros) (closing (body ++ zeros) ∷ [])
-      (append-below wordLimit some body zeros (body-below b l) (zeros-below wordLimit some (closingPlace - length body)))
-      (one-below wordLimit some (closing (body ++ zeros)) [] (omega arith) (none-below wordLimit some))
+      let zeros : List ℕ = replicate (weightedPlace - length body) 0 in
+      let words : List ℕ = padded body in
+      append-below wordLimit some (weighed words) (closing (weighed words) ∷ [])
+      (append-below wordLimit some words (weightedSum (λ k. getD words k 0) ∷ [])
+      (append-below wordLimit some body zeros (body-below b l) (zeros-below wordLimit some (weightedPlace - length body)))
+      (one-below wordLimit some _ [] (omega arith) (none-below wordLimit some)))
+      (one-below wordLimit some _ [] (omega arith) (none-below wordLimit some))
 
   pub file-bytes : EachBelow 256 (fileOf n separation table tapes halfWidths)
   unfolding fileOf

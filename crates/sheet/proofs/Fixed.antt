@@ -9,7 +9,7 @@ use mathlib.Core.List.{List}
 use mathlib.Core.Option.{none, some}
 use lib.Dec.{eqb}
 use borrow.Author.Tests.{lt-ltb, le-ltb, eq-eqb, ne-eqb, eqb-true}
-use Rattle.sheet.specs.Block.{closingPlace, wordAt}
+use Rattle.sheet.specs.Block.{weightedPlace, wordAt}
 use Rattle.sheet.specs.Layout.{firstWord, headerMark, headerWords, rowWord, rowsIn, countWord, usedWords, fixed, agrees, fixedHold, laidOut}
 use Rattle.sheet.proofs.Below.{every-at}
 
@@ -34,11 +34,11 @@ module _ (count used : ℕ) (block : List ℕ) where
   -- what follows for a block where every fixed word agrees
   pub count-held : fixedHold count used block ≡ true → wordAt block 1 ≡ count
   unfolding fixedHold
-  count-held h = eqb-true _ _ (every-at closingPlace _ h 1 (omega arith))
+  count-held h = eqb-true _ _ (every-at weightedPlace _ h 1 (omega arith))
 
-  pub unused-held : 1 < used → (k : ℕ) → used ≤ k → k < closingPlace → fixedHold count used block ≡ true → wordAt block k ≡ 0
+  pub unused-held : 1 < used → (k : ℕ) → used ≤ k → k < weightedPlace → fixedHold count used block ≡ true → wordAt block k ≡ 0
   unfolding fixedHold
-  unused-held least k l m h = eqb-true _ _ (sym (unused k least l) ∙ every-at closingPlace _ h k m)
+  unused-held least k l m h = eqb-true _ _ (sym (unused k least l) ∙ every-at weightedPlace _ h k m)
 
 module _ (n : ℕ) (block : List ℕ) where
   pub laid-header : fixedHold headerMark (firstWord + headerWords) block ≡ laidOut n 0 block

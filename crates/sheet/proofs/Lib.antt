@@ -3,6 +3,7 @@
 pub mod Answer
 pub mod Below
 pub mod Blocks
+pub mod Damage
 pub mod Example
 pub mod Fit
 pub mod Fixed
@@ -10,5 +11,6 @@ pub mod Places
 pub mod Reading
 pub mod Rewritten
 pub mod RoundTrip
+pub mod Sums
 pub mod Words
 pub mod Written

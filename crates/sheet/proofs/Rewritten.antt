@@ -8,7 +8,7 @@ use lib.ListN.{length, getD, take, drop, length-take, List·getD-eq-default}
 use lib.Seq.{take-all, getD-take, getD-drop}
 use borrow.Author.Tests.{eqb-true}
 use Rattle.sheet.specs.Below.{joined}
-use Rattle.sheet.specs.Block.{blockWords, blockBytes, blockCount, wordLimit, closingPlace, wordAt, bytesOf, blockAt, sound, inPlace}
+use Rattle.sheet.specs.Block.{blockWords, blockBytes, blockCount, wordLimit, weightedPlace, closingPlace, wordAt, bytesOf, blockAt, inPlace}
 use Rattle.sheet.specs.Layout.{blockRows, rowWords, blocksFor, nodeBlock, nodeWord, rowsIn, countWord, usedWords}
 use Rattle.sheet.specs.Read.{nodesOf, separationOf, nodePair, nodeSingle, tableOf, tapesOf, halfWidthsOf, refusal}
 use Rattle.sheet.specs.File.{row, content, blockOf, fileOf, EachBelow}
@@ -16,7 +16,7 @@ use Rattle.sheet.proofs.Answer.{Accepted, accepted}
 use Rattle.sheet.proofs.Below.{split, joined-cong, getD-joined, parts-joined}
 use Rattle.sheet.proofs.Blocks.{length-block}
 use Rattle.sheet.proofs.Fixed.{count-held, unused-held}
-use Rattle.sheet.proofs.Words.{bytes-words, length-closed, getD-closed, closing-unique}
+use Rattle.sheet.proofs.Words.{bytes-words, word-below, length-whole, whole-unique}
 use Rattle.sheet.proofs.Written.{length-body, used-least, body-fits}
 
 module _ (file : List ℕ) (n : ℕ) where
@@ -48,7 +48,7 @@ module _ (file : List ℕ) (n : ℕ) where
   row-word r (suc (suc (suc (suc (suc j))))) l m = absurd (omega arith)
 
 -- the bytes of a block are bytes of the file
-block-below : (file : List ℕ) (b : ℕ) → EachBelow 256 file → EachBelow 256 (blockAt file b)
+pub block-below : (file : List ℕ) (b : ℕ) → EachBelow 256 file → EachBelow 256 (blockAt file b)
 unfolding blockAt
 block-below file b fits i =
     split blockBytes i
@@ -103,7 +103,7 @@ module _ (file : List ℕ) (tableLength tapesLength halfWidthsLength : ℕ) (hel
     there : b < blockCount file
     there = omega arith
 
-    body-word : (k : ℕ) → k < closingPlace → getD (body b) k 0 ≡ wordAt (blockAt file b) k
+    body-word : (k : ℕ) → k < weightedPlace → getD (body b) k 0 ≡ wordAt (blockAt file b) k
     unfolding inPlace
     body-word zero m = sym (eqb-true _ _ (held .file-sound .places b there))
     body-word (suc zero) m = sym (count-held (countWord n b) (usedWords n b) (blockAt file b) (held .file-sound .layout b there))
@@ -115,25 +115,17 @@ module _ (file : List ℕ) (tableLength tapesLength halfWidthsLength : ℕ) (hel
         (used-least n D table tapes halfWidths b) (suc (suc i)) h m (held .file-sound .layout b there)))
         (λ h. used-word b l i h)
 
-    closing-fits : wordAt (blockAt file b) closingPlace < wordLimit
-    unfolding wordAt
-    closing-fits = omega (arith, block-below file b fits (2 * closingPlace), block-below file b fits (2 * closingPlace + 1))
-
     block-word : (k : ℕ) → k < blockWords → getD (blockOf n D table tapes halfWidths b) k 0 ≡ wordAt (blockAt file b) k
-    unfolding blockOf sound
-    block-word k m =
-        let used = body-fits n D table tapes halfWidths b in
-        split closingPlace k
-        (λ h.
-        let last : k ≡ closingPlace = omega arith in
-        rw last (closing-unique (body b) used (blockAt file b) body-word (eqb-true _ _ (held .file-sound .checks b there)) closing-fits))
-        (λ h. getD-closed (body b) used k h ∙ body-word k h)
+    unfolding blockOf
+    block-word =
+        whole-unique (body b) (body-fits n D table tapes halfWidths b) (blockAt file b) body-word (held .file-sound .checks b there)
+        (word-below (blockAt file b) closingPlace (block-below file b fits))
 
     block-again : bytesOf (blockOf n D table tapes halfWidths b) ≡ blockAt file b
     unfolding blockOf
     block-again =
         let words : List ℕ = blockOf n D table tapes halfWidths b in
-        let size : length words ≡ blockWords = length-closed (body b) (body-fits n D table tapes halfWidths b) in
+        let size : length words ≡ blockWords = length-whole (body b) (body-fits n D table tapes halfWidths b) in
         let whole : length (blockAt file b) ≡ blockBytes = length-block file b (omega arith) in
         bytes-words words (blockAt file b) (omega arith) (block-below file b fits) (λ k m. block-word k (lt-of-lt-of-le m (le-of-eq size)))
 

@@ -1,16 +1,20 @@
--- Words and their bytes, words that are padded and closed, and pairs and entries taken from a list. Assumes nothing.
+-- Words and their bytes, the block that uses some words, and pairs and entries taken from a list. Assumes nothing.
 use mathlib.Core.Path.{_≡_, refl, sym, ap, ap₂, _∙_}
 use Prim.Native.Nat.{ℕ, zero, suc, _+_, _-_, _*_, _/_, _%_, _≤_, _<_}
 use native.Mathlib.Nat.{le-of-eq}
 use native.Mathlib.Omega.{arith}
+use mathlib.Core.Bool.{true, _&&_}
 use mathlib.Core.List.{List, [], _∷_, _++_, append-assoc}
+use lib.Dec.{eqb}
 use lib.ListN.{length, getD, take, replicate, length-append, length-replicate, List·getD-append}
 use lib.Seq.{take-suc, take-all, getD-at}
-use Rattle.sheet.specs.Below.{total, joined}
-use Rattle.sheet.specs.Block.{blockWords, wordLimit, closingPlace, wordAt, bytesOf, wordSum, closing}
-use Rattle.sheet.specs.File.{padded, closed, EachBelow}
+use borrow.Author.Tests.{eq-eqb, eqb-true}
+use Rattle.refusal.proofs.Truth.{and-left, and-right}
+use Rattle.sheet.specs.Below.{joined}
+use Rattle.sheet.specs.Block.{blockWords, wordLimit, weightedPlace, closingPlace, wordAt, bytesOf, wordSum, weightedSum, sound, closes, closing}
+use Rattle.sheet.specs.File.{padded, weighed, closed, EachBelow}
 use Rattle.sheet.specs.Steps.{pairOf}
-use Rattle.sheet.proofs.Below.{total-more, total-cong}
+use Rattle.sheet.proofs.Below.{split, total-more, total-cong}
 
 pub length-bytes : (words : List ℕ) → length (bytesOf words) ≡ 2 * length words
 unfolding bytesOf
@@ -52,6 +56,11 @@ bytes-words (w ∷ ws) (x ∷ y ∷ block) size fits same =
         let odd : 2 * suc k + 1 ≡ suc (suc (2 * k + 1)) = omega arith in
         rw (odd, even) at e
 
+-- bytes give words of 16 bits
+pub word-below : (block : List ℕ) (k : ℕ) → EachBelow 256 block → wordAt block k < wordLimit
+unfolding wordAt
+word-below block k fits = omega (arith, fits (2 * k), fits (2 * k + 1))
+
 -- zeros after a list are what stands past its end
 getD-zeros : (words : List ℕ) (m k : ℕ) → getD (words ++ replicate m 0) k 0 ≡ getD words k 0
 getD-zeros [] zero k = refl
@@ -60,49 +69,114 @@ getD-zeros [] (suc m) (suc k) = getD-zeros [] m k
 getD-zeros (w ∷ ws) m zero = refl
 getD-zeros (w ∷ ws) m (suc k) = getD-zeros ws m k
 
-module _ (words : List ℕ) (fits : length words ≤ closingPlace) where
-  pub length-padded : length (padded words) ≡ closingPlace
+-- sums over equal words
+pub sum-cong : (count : ℕ) (f g : ℕ → ℕ) → ((k : ℕ) → k < count → f k ≡ g k) → wordSum count f ≡ wordSum count g
+unfolding wordSum
+sum-cong count f g h = ap (λ (sum : ℕ). sum % wordLimit) (total-cong count f g h)
+
+pub weighted-cong : (f g : ℕ → ℕ) → ((k : ℕ) → k < weightedPlace → f k ≡ g k) → weightedSum f ≡ weightedSum g
+unfolding weightedSum
+weighted-cong f g h =
+    ap (λ (sum : ℕ). sum % wordLimit) (total-cong weightedPlace _ _ (λ k l. ap (λ (w : ℕ). w * (k + 1)) (h k l)))
+
+-- a sum with one word more
+pub sum-more : (count : ℕ) (word : ℕ → ℕ) (sum w more : ℕ) → sum ≡ wordSum count word → w ≡ word count → more ≡ (sum + w) % wordLimit
+    → more ≡ wordSum (count + 1) word
+unfolding wordSum
+sum-more count word sum w more isSum isWord isMore = omega (arith, total-more count word)
+
+-- a word that brings the sum of all words to zero, and no other
+pub closes-sum : (word : ℕ → ℕ) → word closingPlace ≡ closes (wordSum closingPlace word) → wordSum blockWords word ≡ 0
+unfolding wordSum
+closes-sum word e = omega (arith, total-more closingPlace word)
+
+pub closes-unique : (word : ℕ → ℕ) → wordSum blockWords word ≡ 0 → word closingPlace < wordLimit → word closingPlace ≡ closes (wordSum closingPlace word)
+unfolding wordSum
+closes-unique word sum fit = omega (arith, total-more closingPlace word)
+
+-- what is known of a sound block
+pub sound-weighted : (block : List ℕ) → sound block ≡ true → wordAt block weightedPlace ≡ weightedSum (wordAt block)
+unfolding sound
+sound-weighted block check = eqb-true _ _ (and-left _ _ check)
+
+pub sound-sum : (block : List ℕ) → sound block ≡ true → wordSum blockWords (wordAt block) ≡ 0
+unfolding sound
+sound-sum block check = eqb-true _ _ (and-right (eqb (wordAt block weightedPlace) (weightedSum (wordAt block))) _ check)
+
+-- a block that uses these words
+module _ (words : List ℕ) (fits : length words ≤ weightedPlace) where
+  pub length-padded : length (padded words) ≡ weightedPlace
   unfolding padded
   length-padded =
-      omega (arith, length-append words (replicate (closingPlace - length words) 0), length-replicate {A = ℕ} (closingPlace - length words) 0)
+      omega (arith, length-append words (replicate (weightedPlace - length words) 0), length-replicate {A = ℕ} (weightedPlace - length words) 0)
 
-  pub length-closed : length (closed (padded words)) ≡ blockWords
+  pub length-weighed : length (weighed (padded words)) ≡ closingPlace
+  unfolding weighed
+  length-weighed = omega (arith, length-padded, length-append (padded words) (weightedSum (λ k. getD (padded words) k 0) ∷ []))
+
+  -- all its words
+  abbrev pub whole : List ℕ
+  whole = closed (weighed (padded words))
+
+  pub length-whole : length whole ≡ blockWords
   unfolding closed
-  length-closed = omega (arith, length-padded, length-append (padded words) (closing (padded words) ∷ []))
+  length-whole = omega (arith, length-weighed, length-append (weighed (padded words)) (closing (weighed (padded words)) ∷ []))
 
-  pub getD-closed : (k : ℕ) → k < closingPlace → getD (closed (padded words)) k 0 ≡ getD words k 0
-  unfolding closed padded
-  getD-closed k l =
-      List·getD-append (padded words) (closing (padded words) ∷ []) 0 k (omega (arith, length-padded))
-      ∙ getD-zeros words (closingPlace - length words) k
+  before-closing : (k : ℕ) → k < closingPlace → getD whole k 0 ≡ getD (weighed (padded words)) k 0
+  unfolding closed
+  before-closing k l = List·getD-append (weighed (padded words)) (closing (weighed (padded words)) ∷ []) 0 k (omega (arith, length-weighed))
 
-  -- closed words add up to zero
-  pub closed-sound : wordSum blockWords (bytesOf (closed (padded words))) ≡ 0
-  unfolding wordSum closing closed
-  closed-sound =
-      let bytes : List ℕ = bytesOf (closed (padded words)) in
-      let before : total closingPlace (wordAt bytes) ≡ total closingPlace (λ k. getD (padded words) k 0) =
-      total-cong closingPlace _ _
-      (λ k l.
-      word-bytes (closed (padded words)) k
-      ∙ List·getD-append (padded words) (closing (padded words) ∷ []) 0 k (omega (arith, length-padded)))
-      in
-      let last : wordAt bytes closingPlace ≡ closing (padded words) =
-      word-bytes (closed (padded words)) closingPlace ∙ getD-at (padded words) (closing (padded words)) [] 0 closingPlace length-padded
-      in
-      omega (arith, total-more closingPlace (wordAt bytes))
+  pub before-weighted : (k : ℕ) → k < weightedPlace → getD (weighed (padded words)) k 0 ≡ getD (padded words) k 0
+  unfolding weighed
+  before-weighted k l = List·getD-append (padded words) (weightedSum (λ j. getD (padded words) j 0) ∷ []) 0 k (omega (arith, length-padded))
 
-  -- and no other word closes them
-  pub closing-unique : (block : List ℕ) → ((k : ℕ) → k < closingPlace → getD words k 0 ≡ wordAt block k) → wordSum blockWords block ≡ 0
-      → wordAt block closingPlace < wordLimit
-      → getD (closed (padded words)) closingPlace 0 ≡ wordAt block closingPlace
-  unfolding wordSum closing closed padded
-  closing-unique block same sum fit =
-      let before : total closingPlace (λ k. getD (padded words) k 0) ≡ total closingPlace (wordAt block) =
-      total-cong closingPlace _ _ (λ k l. getD-zeros words (closingPlace - length words) k ∙ same k l)
-      in
-      getD-at (padded words) (closing (padded words)) [] 0 closingPlace length-padded
-      ∙ omega (arith, total-more closingPlace (wordAt block))
+  pub at-weighted : getD (weighed (padded words)) weightedPlace 0 ≡ weightedSum (λ k. getD (padded words) k 0)
+  unfolding weighed
+  at-weighted = getD-at (padded words) (weightedSum (λ k. getD (padded words) k 0)) [] 0 weightedPlace length-padded
+
+  before-check : (k : ℕ) → k < weightedPlace → getD whole k 0 ≡ getD (padded words) k 0
+  before-check k l = before-closing k (omega arith) ∙ before-weighted k l
+
+  pub getD-whole : (k : ℕ) → k < weightedPlace → getD whole k 0 ≡ getD words k 0
+  unfolding padded
+  getD-whole k l = before-check k l ∙ getD-zeros words (weightedPlace - length words) k
+
+  -- its check words
+  weighted-word : getD whole weightedPlace 0 ≡ weightedSum (λ k. getD whole k 0)
+  weighted-word = before-closing weightedPlace (omega arith) ∙ at-weighted ∙ sym (weighted-cong _ _ before-check)
+
+  closing-word : getD whole closingPlace 0 ≡ closes (wordSum closingPlace (λ k. getD whole k 0))
+  unfolding closed closing
+  closing-word =
+      getD-at (weighed (padded words)) (closing (weighed (padded words))) [] 0 closingPlace length-weighed
+      ∙ ap closes (sym (sum-cong closingPlace _ _ before-closing))
+
+  -- it is sound
+  pub whole-sound : sound (bytesOf whole) ≡ true
+  unfolding sound
+  whole-sound =
+      ap (λ (word : ℕ → ℕ). eqb (word weightedPlace) (weightedSum word) && eqb (wordSum blockWords word) 0) (λ i k. word-bytes whole k i)
+      ∙ rw (eq-eqb _ _ weighted-word) (eq-eqb _ _ (closes-sum (λ k. getD whole k 0) closing-word))
+
+  -- and a sound block with these words before the check words has all words of it
+  module _ (block : List ℕ) (same : (k : ℕ) → k < weightedPlace → getD words k 0 ≡ wordAt block k) (check : sound block ≡ true)
+      (fit : wordAt block closingPlace < wordLimit) where
+    same-before : (k : ℕ) → k < closingPlace → getD whole k 0 ≡ wordAt block k
+    same-before k l =
+        split weightedPlace k
+        (λ h.
+        let last : k ≡ weightedPlace = omega arith in
+        rw last (weighted-word ∙ weighted-cong _ _ (λ j m. getD-whole j m ∙ same j m) ∙ sym (sound-weighted block check)))
+        (λ h. getD-whole k h ∙ same k h)
+
+    pub whole-unique : (k : ℕ) → k < blockWords → getD whole k 0 ≡ wordAt block k
+    whole-unique k l =
+        split closingPlace k
+        (λ h.
+        let last : k ≡ closingPlace = omega arith in
+        rw last
+        (closing-word ∙ ap closes (sum-cong closingPlace _ _ same-before) ∙ sym (closes-unique (wordAt block) (sound-sum block check) fit)))
+        (λ h. same-before k h)
 
 -- the pairs of a list, joined
 pairs-take : (n : ℕ) (l : List ℕ) → 2 * n ≤ length l → joined n (pairOf l) ≡ take (2 * n) l

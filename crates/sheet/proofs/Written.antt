@@ -8,14 +8,14 @@ use mathlib.Core.List.{List, [], _∷_}
 use lib.ListN.{length, getD, take, List·getD-eq-default}
 use lib.Seq.{getD-take}
 use borrow.Author.Tests.{eq-eqb}
-use Rattle.sheet.specs.Block.{blockBytes, closingPlace, wordAt, bytesOf, blockAt, sound, inPlace}
+use Rattle.sheet.specs.Block.{blockBytes, weightedPlace, wordAt, bytesOf, blockAt, sound, inPlace}
 use Rattle.sheet.specs.Layout.{blockRows, rowWords, blocksFor, nodeBlock, nodeWord, rowsIn, countWord, usedWords, fixedHold, laidOut}
 use Rattle.sheet.specs.Read.{nodePair, nodeSingle}
-use Rattle.sheet.specs.File.{row, content, padded, closed, blockOf, fileOf}
+use Rattle.sheet.specs.File.{row, content, padded, weighed, closed, blockOf, fileOf}
 use Rattle.sheet.specs.Steps.{pairOf}
 use Rattle.sheet.proofs.Below.{split, every-holds, joined-cong, length-joined, joined-at, getD-joined}
 use Rattle.sheet.proofs.Fixed.{used-agrees, unused}
-use Rattle.sheet.proofs.Words.{length-bytes, word-bytes, length-closed, getD-closed, closed-sound}
+use Rattle.sheet.proofs.Words.{length-bytes, word-bytes, length-whole, getD-whole, whole-sound}
 
 module _ (n separation : ℕ) (table tapes halfWidths : List ℕ) where
   -- the used words of block b
@@ -30,7 +30,7 @@ module _ (n separation : ℕ) (table tapes halfWidths : List ℕ) where
   length-body zero = refl
   length-body (suc b) = omega (arith, length-joined rowWords (λ i. row table tapes halfWidths (blockRows * b + i)) (λ k. refl) (rowsIn n b))
 
-  used-fits : (b : ℕ) → usedWords n b ≤ closingPlace
+  used-fits : (b : ℕ) → usedWords n b ≤ weightedPlace
   unfolding usedWords
   used-fits zero = omega arith
   used-fits (suc b) = omega arith
@@ -40,12 +40,12 @@ module _ (n separation : ℕ) (table tapes halfWidths : List ℕ) where
   used-least zero = omega arith
   used-least (suc b) = omega arith
 
-  pub body-fits : (b : ℕ) → length (body b) ≤ closingPlace
+  pub body-fits : (b : ℕ) → length (body b) ≤ weightedPlace
   body-fits b = omega (arith, length-body b, used-fits b)
 
   pub block-size : (b : ℕ) → length (bytesOf (blockOf n separation table tapes halfWidths b)) ≡ blockBytes
   unfolding blockOf
-  block-size b = omega (arith, length-bytes (blockOf n separation table tapes halfWidths b), length-closed (body b) (body-fits b))
+  block-size b = omega (arith, length-bytes (blockOf n separation table tapes halfWidths b), length-whole (body b) (body-fits b))
 
   pub length-file : length file ≡ blockBytes * blocksFor n
   unfolding fileOf
@@ -56,14 +56,14 @@ module _ (n separation : ℕ) (table tapes halfWidths : List ℕ) where
     unfolding blockAt fileOf
     block-read = joined-at blockBytes (λ b. bytesOf (blockOf n separation table tapes halfWidths b)) block-size (blocksFor n) b l
 
-    -- word k of block b, before the closing word
-    pub word-read : (k : ℕ) → k < closingPlace → wordAt (blockAt file b) k ≡ getD (body b) k 0
+    -- word k of block b, before the check words
+    pub word-read : (k : ℕ) → k < weightedPlace → wordAt (blockAt file b) k ≡ getD (body b) k 0
     unfolding blockOf
-    word-read k m = rw block-read (word-bytes (blockOf n separation table tapes halfWidths b) k ∙ getD-closed (body b) (body-fits b) k m)
+    word-read k m = rw block-read (word-bytes (blockOf n separation table tapes halfWidths b) k ∙ getD-whole (body b) (body-fits b) k m)
 
     pub check-read : sound (blockAt file b) ≡ true
-    unfolding blockOf sound
-    check-read = rw block-read (eq-eqb _ _ (closed-sound (body b) (body-fits b)))
+    unfolding blockOf
+    check-read = rw block-read (whole-sound (body b) (body-fits b))
 
     pub place-read : inPlace b (blockAt file b) ≡ true
     unfolding inPlace
@@ -72,7 +72,7 @@ module _ (n separation : ℕ) (table tapes halfWidths : List ℕ) where
     pub laid-read : laidOut n b (blockAt file b) ≡ true
     unfolding fixedHold
     laid-read =
-        every-holds closingPlace _
+        every-holds weightedPlace _
         (λ k m.
         split (usedWords n b) k
         (λ h.
@@ -121,4 +121,4 @@ module _ (n separation : ℕ) (table tapes halfWidths : List ℕ) where
   pub entries-unseen : file ≡ fileOf n separation table (take (2 * n) tapes) (take n halfWidths)
   unfolding fileOf blockOf
   entries-unseen =
-      joined-cong (blocksFor n) _ _ (λ b l. ap (λ (used : List ℕ). bytesOf (closed (padded (b ∷ countWord n b ∷ used)))) (content-unseen b))
+      joined-cong (blocksFor n) _ _ (λ b l. ap (λ (used : List ℕ). bytesOf (closed (weighed (padded (b ∷ countWord n b ∷ used))))) (content-unseen b))

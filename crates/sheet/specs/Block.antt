@@ -1,7 +1,7 @@
--- A file as blocks of words: 256 words of 16 bits to a block, the low byte first. A block's check is that its words add up
--- to zero modulo 65,536; the last word, the closing word, serves for that. Word 0 is the block's place.
+-- A file as blocks of words: 256 words of 16 bits to a block, the low byte first. Its last two are check words: the weighted sum of
+-- the words before it, and the closing word, with which all 256 add up to zero, both modulo 65,536. Word 0 is the block's place.
 use Prim.Native.Nat.{ℕ, _+_, _-_, _*_, _/_, _%_}
-use mathlib.Core.Bool.{Bool}
+use mathlib.Core.Bool.{Bool, _&&_}
 use mathlib.Core.List.{List, [], _∷_}
 use lib.Dec.{eqb}
 use lib.ListN.{length, getD, take, drop}
@@ -17,7 +17,10 @@ blockBytes = 512
 abbrev pub wordLimit : ℕ
 wordLimit = 65536
 
--- the place of the closing word
+-- the places of the check words: of the weighted sum, and of the closing word
+abbrev pub weightedPlace : ℕ
+weightedPlace = 254
+
 abbrev pub closingPlace : ℕ
 closingPlace = 255
 
@@ -38,13 +41,17 @@ unfoldable pub bytesOf : List ℕ → List ℕ
 bytesOf [] = []
 bytesOf (w ∷ ws) = w % 256 ∷ w / 256 ∷ bytesOf ws
 
--- the sum of a block's first words, modulo 65,536
-unfoldable pub wordSum : ℕ → List ℕ → ℕ
-wordSum count block = total count (wordAt block) % wordLimit
+-- the sum of the first words, modulo 65,536
+unfoldable pub wordSum : ℕ → (ℕ → ℕ) → ℕ
+wordSum count word = total count word % wordLimit
 
--- a block's check
+-- the sum over words 0 to 253 of the word times one more than its index, modulo 65,536
+unfoldable pub weightedSum : (ℕ → ℕ) → ℕ
+weightedSum word = total weightedPlace (λ k. word k * (k + 1)) % wordLimit
+
+-- a block's check: word 254 is the weighted sum, and the sum of all words is zero
 unfoldable pub sound : List ℕ → Bool
-sound block = eqb (wordSum blockWords block) 0
+sound block = eqb (wordAt block weightedPlace) (weightedSum (wordAt block)) && eqb (wordSum blockWords (wordAt block)) 0
 
 -- the word that brings a sum to zero
 abbrev pub closes : ℕ → ℕ
@@ -52,7 +59,7 @@ closes sum = (wordLimit - sum) % wordLimit
 
 -- the word that closes the sum over the words before it
 unfoldable pub closing : List ℕ → ℕ
-closing words = closes (total closingPlace (λ k. getD words k 0) % wordLimit)
+closing words = closes (wordSum closingPlace (λ k. getD words k 0))
 
 -- a block's first word is its place
 unfoldable pub inPlace : ℕ → List ℕ → Bool

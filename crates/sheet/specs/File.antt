@@ -4,7 +4,7 @@ use Prim.Native.Nat.{ℕ, zero, suc, _+_, _-_, _*_, _≤_, _<_}
 use mathlib.Core.List.{List, [], _∷_, _++_}
 use lib.ListN.{length, getD, replicate}
 use Rattle.sheet.specs.Below.{joined}
-use Rattle.sheet.specs.Block.{closingPlace, bytesOf, closing}
+use Rattle.sheet.specs.Block.{weightedPlace, bytesOf, weightedSum, closing}
 use Rattle.sheet.specs.Layout.{mostNodes, mostSeparation, blockRows, blocksFor, rowsIn, countWord}
 use Rattle.sheet.specs.Read.{nodesOf, separationOf, tableOf, tapesOf, halfWidthsOf, refusal}
 
@@ -18,9 +18,13 @@ unfoldable pub content : ℕ → ℕ → List ℕ → List ℕ → List ℕ → 
 content n separation table tapes halfWidths zero = n ∷ separation ∷ []
 content n separation table tapes halfWidths (suc b) = joined (rowsIn n b) (λ i. row table tapes halfWidths (blockRows * b + i))
 
--- words with 0 after them up to the closing word's place
+-- words with 0 after them up to the check words
 unfoldable pub padded : List ℕ → List ℕ
-padded words = words ++ replicate (closingPlace - length words) 0
+padded words = words ++ replicate (weightedPlace - length words) 0
+
+-- words with their weighted sum after them
+unfoldable pub weighed : List ℕ → List ℕ
+weighed words = words ++ weightedSum (λ k. getD words k 0) ∷ []
 
 -- words with the closing word after them
 unfoldable pub closed : List ℕ → List ℕ
@@ -28,7 +32,8 @@ closed words = words ++ closing words ∷ []
 
 -- the 256 words of block b
 unfoldable pub blockOf : ℕ → ℕ → List ℕ → List ℕ → List ℕ → ℕ → List ℕ
-blockOf n separation table tapes halfWidths b = closed (padded (b ∷ countWord n b ∷ content n separation table tapes halfWidths b))
+blockOf n separation table tapes halfWidths b =
+    closed (weighed (padded (b ∷ countWord n b ∷ content n separation table tapes halfWidths b)))
 
 -- the file's bytes
 unfoldable pub fileOf : ℕ → ℕ → List ℕ → List ℕ → List ℕ → List ℕ

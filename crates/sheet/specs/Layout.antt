@@ -1,12 +1,12 @@
 -- Where a sheet of n nodes stands in its file. Block 0 is the header, with n and D; the blocks after it hold the nodes' rows.
--- The layout fixes word 1 of every block, and that the words past the used ones, up to the closing word, are 0.
+-- The layout fixes word 1 of every block, and that the words past the used ones, up to the check words, are 0.
 use Prim.Native.Nat.{ℕ, zero, suc, _+_, _-_, _*_, _/_, _%_, min}
 use mathlib.Core.Bool.{Bool, true, cond}
 use mathlib.Core.List.{List}
 use mathlib.Core.Option.{Option, none, some}
 use lib.Dec.{eqb, ltb}
 use Rattle.sheet.specs.Below.{every}
-use Rattle.sheet.specs.Block.{closingPlace, wordAt}
+use Rattle.sheet.specs.Block.{weightedPlace, wordAt}
 
 -- n and D are 1 to 1,024
 abbrev pub mostNodes : ℕ
@@ -57,12 +57,12 @@ unfoldable pub countWord : ℕ → ℕ → ℕ
 countWord n zero = headerMark
 countWord n (suc b) = rowsIn n b
 
--- the words of block b from this one on, up to the closing word, are unused
+-- the words of block b from this one on, up to the check words, are unused
 unfoldable pub usedWords : ℕ → ℕ → ℕ
 usedWords n zero = firstWord + headerWords
 usedWords n (suc b) = rowWord (rowsIn n b)
 
--- what the layout fixes of word k before the closing word, where word 1 is `count` and the words from `used` on are unused:
+-- what the layout fixes of word k before the check words, where word 1 is `count` and the words from `used` on are unused:
 -- word 1 and the unused words; the others are free
 abbrev pub fixed : ℕ → ℕ → ℕ → Option ℕ
 fixed count used k = cond (eqb k 1) (some count) (cond (ltb k used) none (some 0))
@@ -74,7 +74,7 @@ agrees (some v) w = eqb w v
 
 -- a block has every word that the layout so fixes
 unfoldable pub fixedHold : ℕ → ℕ → List ℕ → Bool
-fixedHold count used block = every closingPlace (λ k. agrees (fixed count used k) (wordAt block k))
+fixedHold count used block = every weightedPlace (λ k. agrees (fixed count used k) (wordAt block k))
 
 -- block b of a sheet of n nodes is laid out right
 abbrev pub laidOut : ℕ → ℕ → List ℕ → Bool

@@ -7,3 +7,5 @@ pub mod Read
 pub mod File
 pub mod Walk
 pub mod Steps
+pub mod Sums
+pub mod Damage

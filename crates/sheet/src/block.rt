@@ -1,11 +1,9 @@
-// A block of a file: its words, its check and its place.
+// A block of a file: its words and its place.
 ghost use mathlib.Core.Path.{_≡_};
 ghost use Prim.Native.Nat.{_+_, _*_, _<_, _≤_};
 ghost use lib.ListN.{length};
-ghost use Rattle.sheet.specs.Block.{blockBytes, wordAt, wordSum, sound, inPlace};
+ghost use Rattle.sheet.specs.Block.{blockBytes, wordAt, inPlace};
 ghost use Rattle.sheet.specs.Steps.{IsBlock};
-
-const BLOCK_WORDS: usize = 256;
 
 pub const BLOCK_BYTES: usize = 512;
 
@@ -33,28 +31,6 @@ pub fn block_at(file: &[u8], place: usize) -> &[u8]
     let start = BLOCK_BYTES * place;
     let end = start + BLOCK_BYTES;
     &file[start..end]
-}
-
-// The sum of a block's first `count` words. It wraps.
-pub fn word_sum(block: &[u8], count: usize) -> u16
-    requires { ⌜ 2 * count ≤ length (now block) ⌝ }
-    ensures { λ r. ⌜ r ≡ wordSum count (now (block .entry)) ⌝ }
-{
-    let mut sum: u16 = 0;
-    let mut place: usize = 0;
-    while place < count {
-        sum = std::num::wrapping_add_u16(sum, word(block, place));
-        place += 1;
-    }
-    sum
-}
-
-// Whether a block's check is right.
-pub fn is_sound(block: &[u8]) -> bool
-    requires { ⌜ length (now block) ≡ blockBytes ⌝ }
-    ensures { λ r. ⌜ r ≡ sound (now (block .entry)) ⌝ }
-{
-    word_sum(block, BLOCK_WORDS) == 0
 }
 
 // Whether a block's first word is `place`.

@@ -8,7 +8,7 @@ ghost use Rattle.sheet.specs.Read.{lengthWrong, checkWrong, placeWrong, 
 use super::block::BLOCK_BYTES;
 use super::block::block_at;
 use super::block::in_place;
-use super::block::is_sound;
+use super::check::is_sound;
 use super::header::nodes_of;
 use super::header::separation_of;
 use super::layout::FIRST_BLOCK;

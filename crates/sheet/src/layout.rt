@@ -2,7 +2,7 @@
 ghost use mathlib.Core.Path.{_≡_};
 ghost use Prim.Native.Nat.{_+_, _<_, _≤_, min};
 ghost use lib.ListN.{length};
-ghost use Rattle.sheet.specs.Block.{blockBytes, closingPlace};
+ghost use Rattle.sheet.specs.Block.{blockBytes, weightedPlace};
 ghost use Rattle.sheet.specs.Layout.{firstWord, headerMark, headerWords, blockRows, rowWord, blocksFor, fixedHold};
 use super::block::word;
 
@@ -24,6 +24,8 @@ pub const HEADER_MARK: usize = 1;
 
 pub const HEADER_WORDS: usize = 2;
 
+pub const WEIGHTED_PLACE: usize = 254;
+
 pub const CLOSING_PLACE: usize = 255;
 
 // How many blocks a sheet takes.
@@ -41,17 +43,17 @@ pub fn rows_of(left: usize) -> usize
     if left < BLOCK_ROWS { left } else { BLOCK_ROWS }
 }
 
-// Whether word 1 is `count` and the words from `used` to the closing word are 0.
+// Whether word 1 is `count` and the words from `used` to the check words are 0.
 fn fixed_hold(block: &[u8], count: usize, used: usize) -> bool
     requires { ⌜ length (now block) ≡ blockBytes ⌝ }
-    requires { ⌜ (1 < used) × (used ≤ closingPlace) ⌝ }
+    requires { ⌜ (1 < used) × (used ≤ weightedPlace) ⌝ }
     ensures { λ r. ⌜ r ≡ fixedHold count used (now (block .entry)) ⌝ }
 {
     if word(block, 1) as usize != count {
         return false;
     }
     let mut place = used;
-    while place < CLOSING_PLACE {
+    while place < WEIGHTED_PLACE {
         if word(block, place) != 0 {
             return false;
         }

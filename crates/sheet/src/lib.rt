@@ -3,6 +3,7 @@
 ghost use Rattle.sheet.specs.Read.{SheetRead};
 
 pub mod block;
+pub mod check;
 mod conditions;
 mod header;
 pub mod layout;

@@ -23,12 +23,14 @@ pub fn file() -> [u8; 1024] {
     put(&mut file, 1, 1);
     put(&mut file, 2, 3);
     put(&mut file, 3, 3);
-    put(&mut file, 255, 65529);
+    put(&mut file, 254, 23);
+    put(&mut file, 255, 65506);
     put(&mut file, 256, 1);
     put(&mut file, 257, 3);
     put_row(&mut file, 258, 1, 65535, 500);
     put_row(&mut file, 263, 65535, 2, 501);
     put_row(&mut file, 268, 65535, 65535, 502);
-    put(&mut file, 511, 64030);
+    put(&mut file, 510, 15029);
+    put(&mut file, 511, 49001);
     file
 }

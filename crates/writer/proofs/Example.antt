@@ -9,19 +9,19 @@ use Rattle.tree.specs.Forest.{forest, treeOf}
 use Rattle.tree.specs.WellFormed.{badLength, badEntry, rootHasSibling, namedTwice, unnamed, notReached, tableConditions}
 use Rattle.distance.specs.Needed.{badSeparation, badHalfWidths}
 use Rattle.sheet.specs.Below.{total, joined}
-use Rattle.sheet.specs.Block.{bytesOf, closing}
+use Rattle.sheet.specs.Block.{bytesOf, wordSum, weightedSum, closing}
 use Rattle.sheet.specs.Layout.{countWord}
-use Rattle.sheet.specs.File.{row, content, padded, closed, blockOf, fileOf}
+use Rattle.sheet.specs.File.{row, content, padded, weighed, closed, blockOf, fileOf}
 use Rattle.sheet.proofs.Example.{links, tapes, halfWidths, header-words, rows-words}
 use Rattle.writer.specs.Write.{sheetFile, writeNumber, SheetWritten}
 use Rattle.writer.specs.declared.Written.{Written}
 
--- its words, with 65,529 and 64,030 as check words
+-- its words, with 23 and 65,506, and 15,029 and 49,001, as check words
 abbrev header : List ℕ
-header = 0 ∷ 1 ∷ 3 ∷ 3 ∷ replicate 251 0 ++ 65529 ∷ []
+header = 0 ∷ 1 ∷ 3 ∷ 3 ∷ replicate 250 0 ++ 23 ∷ 65506 ∷ []
 
 abbrev rows : List ℕ
-rows = 1 ∷ 3 ∷ 1 ∷ 65535 ∷ 500 ∷ 0 ∷ 0 ∷ 65535 ∷ 2 ∷ 501 ∷ 0 ∷ 0 ∷ 65535 ∷ 65535 ∷ 502 ∷ 0 ∷ 0 ∷ replicate 238 0 ++ 64030 ∷ []
+rows = 1 ∷ 3 ∷ 1 ∷ 65535 ∷ 500 ∷ 0 ∷ 0 ∷ 65535 ∷ 2 ∷ 501 ∷ 0 ∷ 0 ∷ 65535 ∷ 65535 ∷ 502 ∷ 0 ∷ 0 ∷ replicate 237 0 ++ 15029 ∷ 49001 ∷ []
 
 pub example-file : sheetFile links 3 tapes halfWidths ≡ bytesOf header ++ bytesOf rows
 unfolding joined fileOf
@@ -35,13 +35,13 @@ numbered separation entries widths room = writeNumber links separation (take ent
 pub example-numbers : (numbered 3 6 halfWidths 1024 ≡ 0) × (numbered 3 6 halfWidths 1023 ≡ 7) × (numbered 3 6 (0 ∷ 0 ∷ []) 1023 ≡ 17)
     × (numbered 3 5 (0 ∷ 0 ∷ []) 1023 ≡ 13) × (numbered 0 5 (0 ∷ 0 ∷ []) 1023 ≡ 6) × (numbered 3 6 (0 ∷ 0 ∷ 257 ∷ []) 1024 ≡ 17)
     × (numbered 3 6 (256 ∷ 256 ∷ 256 ∷ 257 ∷ []) 1024 ≡ 0)
-unfolding writeNumber tableConditions badLength badEntry rootHasSibling namedTwice unnamed notReached treeOf forest badSeparation badHalfWidths total joined bytesOf closing countWord row content padded closed blockOf fileOf
+unfolding writeNumber tableConditions badLength badEntry rootHasSibling namedTwice unnamed notReached treeOf forest badSeparation badHalfWidths total joined bytesOf wordSum weightedSum closing countWord row content padded weighed closed blockOf fileOf
 example-numbers = (refl, refl, refl, refl, refl, refl, refl)
 
 -- of an output of 1,026 bytes that all hold 9, two are left
 pub example-written : (a : Written) (out′ : List ℕ) → SheetWritten links 3 tapes halfWidths (replicate 1026 9) a out′
     → (a ≡ record { number = 0; bytes = 1024 }) × (out′ ≡ bytesOf header ++ bytesOf rows ++ 9 ∷ 9 ∷ [])
-unfolding writeNumber tableConditions badLength badEntry rootHasSibling namedTwice unnamed notReached treeOf forest badSeparation badHalfWidths total joined bytesOf closing countWord row content padded closed blockOf fileOf overwrite after
+unfolding writeNumber tableConditions badLength badEntry rootHasSibling namedTwice unnamed notReached treeOf forest badSeparation badHalfWidths total joined bytesOf wordSum weightedSum closing countWord row content padded weighed closed blockOf fileOf overwrite after
 example-written a out′ written =
     let number : a .number ≡ 0 = written .number in
     let bytes : a .bytes ≡ 1024 = written .bytes in

@@ -1,14 +1,14 @@
 -- What the writer's inner steps promise.
-use Prim.Native.Nat.{ℕ, _+_, _-_, _*_, _≤_, _<_}
+use Prim.Native.Nat.{ℕ, _+_, _-_, _*_, _%_, _≤_, _<_}
 use mathlib.Core.Path.{_≡_}
 use mathlib.Core.List.{List, [], _∷_}
 use lib.ListN.{length, replicate}
 use lib.Seq.{sets}
 use Rattle.refusal.specs.After.{overwrite}
 use Rattle.sheet.specs.Below.{joined}
-use Rattle.sheet.specs.Block.{closingPlace, bytesOf, wordSum, closes}
+use Rattle.sheet.specs.Block.{wordLimit, weightedPlace, wordAt, bytesOf, wordSum, weightedSum, closes}
 use Rattle.sheet.specs.Layout.{blockRows, rowsIn}
-use Rattle.sheet.specs.File.{row, padded, closed}
+use Rattle.sheet.specs.File.{row, padded, weighed, closed}
 use Rattle.sheet.specs.Walk.{OnRow}
 use Rattle.sheet.specs.declared.walk.RowPlace.{RowPlace}
 use Rattle.writer.specs.Write.{sheetFile}
@@ -41,21 +41,21 @@ pub record Past (n : ℕ) (from next : RowPlace) : Type 0 where
 abbrev pub rowsFrom : List ℕ → List ℕ → List ℕ → ℕ → ℕ → List ℕ
 rowsFrom table tapes halfWidths first rows = joined rows (λ i. row table tapes halfWidths (first + i))
 
--- a block with 0 in its words from `used` on, up to the closing word
+-- a block with 0 in its words from `used` on, up to the check words
 abbrev pub zeroed : ℕ → List ℕ → List ℕ
-zeroed used block = storeWords block used (replicate (closingPlace - used) 0)
+zeroed used block = storeWords block used (replicate (weightedPlace - used) 0)
 
--- the word that closes a block's sum
-abbrev pub closingWord : List ℕ → ℕ
-closingWord block = closes (wordSum closingPlace block)
+-- the check words of a block: the weighted sum, and the word that closes the sum over the words before it
+abbrev pub checkWords : (ℕ → ℕ) → List ℕ
+checkWords word = weightedSum word ∷ closes ((wordSum weightedPlace word + weightedSum word) % wordLimit) ∷ []
 
 -- a block closed
 unfoldable pub closeBlock : List ℕ → List ℕ
-closeBlock block = storeWords block closingPlace (closingWord block ∷ [])
+closeBlock block = storeWords block weightedPlace (checkWords (wordAt block))
 
 -- a slice with a block at its start that uses these words
 unfoldable pub blockOver : List ℕ → List ℕ → List ℕ
-blockOver words old = overwrite (bytesOf (closed (padded words))) old
+blockOver words old = overwrite (bytesOf (closed (weighed (padded words)))) old
 
 -- the file of a sheet at the start of the output, and its length
 pub record FileWritten (table : List ℕ) (separation : ℕ) (tapes halfWidths out : List ℕ) (bytes : ℕ) (out′ : List ℕ) : Type 0 where

@@ -3,19 +3,20 @@ ghost use mathlib.Core.Path.{_≡_};
 ghost use mathlib.Core.List.{[], _∷_};
 ghost use Prim.Native.Nat.{_+_, _*_, _<_, _≤_};
 ghost use lib.ListN.{length};
-ghost use Rattle.sheet.specs.Block.{blockBytes, closingPlace};
+ghost use Rattle.sheet.specs.Block.{blockBytes, weightedPlace};
 ghost use Rattle.sheet.specs.Layout.{firstWord, headerMark, nodeWord};
 ghost use Rattle.sheet.specs.Steps.{pairOf};
 ghost use Rattle.sheet.specs.File.{row};
 ghost use Rattle.sheet.specs.Walk.{OnRow};
 ghost use Rattle.writer.specs.Steps.{storeWords, Begun, Past, rowsOf, rowsFrom, zeroed, closeBlock, blockOver};
-use sheet::block::word_sum;
+use sheet::check::sums_of;
 use sheet::layout::CLOSING_PLACE;
 use sheet::layout::FIRST_WORD;
 use sheet::layout::HEADER_MARK;
 use sheet::layout::HEADER_WORDS;
 use sheet::layout::LAST_ROW_WORD;
 use sheet::layout::ROW_WORDS;
+use sheet::layout::WEIGHTED_PLACE;
 use sheet::layout::rows_of;
 use sheet::walk::RowPlace;
 use sheet::walk::next_row;
@@ -94,24 +95,26 @@ fn put_rows(
     next_row(at)
 }
 
-// Stores 0 in the words from `used` on, up to the closing word.
+// Stores 0 in the words from `used` on, up to the check words.
 fn put_zeros(block: &mut [u8], used: usize)
-    requires { ⌜ (blockBytes ≤ length (now block)) × (used ≤ closingPlace) ⌝ }
+    requires { ⌜ (blockBytes ≤ length (now block)) × (used ≤ weightedPlace) ⌝ }
     ensures { λ _. ⌜ now (block .exit) ≡ zeroed used (now (block .entry)) ⌝ }
 {
     let mut place = used;
-    while place < CLOSING_PLACE {
+    while place < WEIGHTED_PLACE {
         put(block, place, 0);
         place += 1;
     }
 }
 
-// Stores the closing word.
+// Stores the check words: the weighted sum, and the word that closes the sum with it.
 fn close(block: &mut [u8])
     requires { ⌜ blockBytes ≤ length (now block) ⌝ }
     ensures { λ _. ⌜ now (block .exit) ≡ closeBlock (now (block .entry)) ⌝ }
 {
-    let sum = word_sum(block, CLOSING_PLACE);
+    let sums = sums_of(block);
+    let sum = std::num::wrapping_add_u16(sums.plain, sums.weighted);
+    put(block, WEIGHTED_PLACE, sums.weighted);
     put(block, CLOSING_PLACE, std::num::wrapping_sub_u16(0, sum));
 }
 

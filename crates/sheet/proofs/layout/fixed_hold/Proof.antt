@@ -7,7 +7,7 @@ use mathlib.Core.Bool.{true}
 use lib.Dec.{lit<}
 use borrow.Author.Tests.{eq-eqb, ne-eqb}
 use Rattle.sheet.specs.Below.{every}
-use Rattle.sheet.specs.Block.{closingPlace, wordAt}
+use Rattle.sheet.specs.Block.{weightedPlace, wordAt}
 use Rattle.sheet.specs.Layout.{fixed, agrees, fixedHold}
 use Rattle.sheet.proofs.Below.{every-more, every-fails, every-holds}
 use Rattle.sheet.proofs.Fixed.{used-agrees, count-differs, unused}
@@ -15,10 +15,10 @@ use Rattle.sheet.proofs.layout.fixed_hold.Statement.{statement}
 use Rattle.sheet.proofs.layout.fixed_hold.Tie as tie
 
 abbrev Inv-loop : tie.InvT-loop
-Inv-loop block count used place₀ place = (used ≤ place) × (place ≤ closingPlace) × (every place (λ k. agrees (fixed count used k) (wordAt block k)) ≡ true)
+Inv-loop block count used place₀ place = (used ≤ place) × (place ≤ weightedPlace) × (every place (λ k. agrees (fixed count used k) (wordAt block k)) ≡ true)
 
 abbrev μ-loop : tie.MeasureT-loop
-μ-loop block count used place₀ place = closingPlace - place
+μ-loop block count used place₀ place = weightedPlace - place
 
 word-requires : tie.Need-word-requires Inv-loop μ-loop
 word-requires c κs = omega arith
@@ -30,7 +30,7 @@ returns : tie.Need-returns Inv-loop μ-loop
 unfolding fixedHold
 returns c =
     let a = c .before .before .before .args in
-    sym (every-fails closingPlace _ 1 (lit< tt) (count-differs (a .count) (a .used) (a .block .now) (λ e. c .if1 .taken (c .before .word .ensures ∙ e))))
+    sym (every-fails weightedPlace _ 1 (lit< tt) (count-differs (a .count) (a .used) (a .block .now) (λ e. c .if1 .taken (c .before .word .ensures ∙ e))))
 
 loop-holds : tie.Need-loop-holds Inv-loop μ-loop
 loop-holds c =
@@ -47,7 +47,7 @@ returns-2 c =
     let a = c .before .before .before .before .before .before .before .args in
     let place = c .before .before .before .loop .place in
     let differs = unused (a .count) (a .used) (a .block .now) place (omega arith) (omega arith) ∙ ne-eqb _ _ (λ e. c .if2 .taken (c .before .word2 .ensures ∙ e)) in
-    sym (every-fails closingPlace _ place (omega arith) differs)
+    sym (every-fails weightedPlace _ place (omega arith) differs)
 
 add-place : tie.Need-add-place Inv-loop μ-loop
 add-place c = omega arith
@@ -65,7 +65,7 @@ loop-again c =
 returns-3 : tie.Need-returns-3 Inv-loop μ-loop
 unfolding fixedHold
 returns-3 c =
-    let place : c .before .loop .place ≡ closingPlace = omega arith in
+    let place : c .before .loop .place ≡ weightedPlace = omega arith in
     sym (rw place at (c .before .loop .inv .2))
 
 pub fixed-hold-spec : {M : Type 1} → statement M

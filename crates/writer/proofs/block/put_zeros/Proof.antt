@@ -1,9 +1,9 @@
--- `block::put_zeros` stores 0 up to the closing word. The invariant: the words before the place are stored. Assumes nothing.
+-- `block::put_zeros` stores 0 up to the check words. The invariant: the words before the place are stored. Assumes nothing.
 use mathlib.Core.Path.{_≡_, sym, ap, _∙_}
 use Prim.Native.Nat.{_-_, _≤_}
 use native.Mathlib.Omega.{arith}
 use lib.ListN.{length, replicate}
-use Rattle.sheet.specs.Block.{closingPlace}
+use Rattle.sheet.specs.Block.{weightedPlace}
 use Rattle.writer.specs.Steps.{storeWords}
 use Rattle.writer.proofs.Stored.{store-none, length-stored}
 use Rattle.writer.proofs.Rows.{zeros-more}
@@ -11,10 +11,10 @@ use Rattle.writer.proofs.block.put_zeros.Statement.{statement}
 use Rattle.writer.proofs.block.put_zeros.Tie as tie
 
 abbrev Inv-loop : tie.InvT-loop
-Inv-loop block₀ used place₀ block place = (used ≤ place) × (place ≤ closingPlace) × (block ≡ storeWords block₀ used (replicate (place - used) 0))
+Inv-loop block₀ used place₀ block place = (used ≤ place) × (place ≤ weightedPlace) × (block ≡ storeWords block₀ used (replicate (place - used) 0))
 
 abbrev μ-loop : tie.MeasureT-loop
-μ-loop block₀ used place₀ block place = closingPlace - place
+μ-loop block₀ used place₀ block place = weightedPlace - place
 
 same-size : (c : tie.At-loop Inv-loop μ-loop) → length (c .loop .block) ≡ length (c .before .before .args .block .now)
 same-size c = ap length (c .loop .inv .2) ∙ length-stored _ _ _
@@ -46,7 +46,7 @@ same-length c = same-size (c .before)
 
 returns : tie.Need-returns Inv-loop μ-loop
 returns c =
-    let all : c .before .loop .place ≡ closingPlace = omega arith in
+    let all : c .before .loop .place ≡ weightedPlace = omega arith in
     rw (← all) (c .before .loop .inv .2)
 
 pub put-zeros-spec : {M : Type 1} → statement M
