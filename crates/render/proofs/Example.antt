@@ -9,11 +9,11 @@ use Rattle.tree.specs.WellFormed.{badLength, badEntry, rootHasSibling, namedTwi
 use Rattle.rule.specs.Join.{evenly}
 use Rattle.rule.specs.Rule.{drawn}
 use Rattle.rule.specs.Result.{place, placesOf, levelsOf}
-use Rattle.sheet.specs.Below.{total, every, joined}
-use Rattle.sheet.specs.Block.{wordAt, bytesOf, blockAt, wordSum, weightedSum, sound, closing, inPlace}
+use Rattle.blocks.specs.Below.{total, every, joined}
+use Rattle.blocks.specs.Block.{wordAt, bytesOf, blockAt, wordSum, weightedSum, sound, closing, inPlace, padded, weighed, closed}
 use Rattle.sheet.specs.Layout.{countWord, usedWords, fixedHold}
 use Rattle.sheet.specs.Read.{nodesOf, separationOf, tableOf, tapesOf, halfWidthsOf, fileNumber}
-use Rattle.sheet.specs.File.{row, content, padded, weighed, closed, blockOf, fileOf}
+use Rattle.sheet.specs.File.{row, content, blockOf, fileOf}
 use Rattle.sheet.proofs.Example.{links, tapes, halfWidths}
 use Rattle.lines.specs.Decimal.{decimalWithin, decimal, signedDecimal}
 use Rattle.lines.specs.Listing.{sheetLine, nodeLine, nodeLines}

@@ -10,7 +10,7 @@ use borrow.Author.Tests.{le-leb, lt-ltb}
 use Rattle.refusal.proofs.After.{granted-accepted, after-accepted, take-overwrite}
 use Rattle.tree.specs.Table.{nodes}
 use Rattle.refusal.proofs.Truth.{or-true}
-use Rattle.sheet.specs.Block.{blockBytes}
+use Rattle.blocks.specs.Block.{blockBytes}
 use Rattle.sheet.specs.Layout.{blocksFor}
 use Rattle.sheet.specs.declared.Sheet.{Sheet}
 use Rattle.sheet.specs.Read.{nodesOf, separationOf, tableOf, tapesOf, halfWidthsOf, lengthWrong, fileNumber, numberRead, SheetRead}

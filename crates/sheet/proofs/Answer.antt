@@ -12,10 +12,10 @@ use Rattle.refusal.specs.First.{Condition, _⇐_, first}
 use Rattle.refusal.proofs.After.{granted-refused, after-accepted, after-refused}
 use Rattle.refusal.proofs.Laws.{first-refused, first-passed, first-none, none-first}
 use Rattle.refusal.proofs.Truth.{or-false-left, or-false-right, or-false, and-left, and-right}
-use Rattle.sheet.specs.Block.{blockBytes, blockCount, blockAt, sound, inPlace}
+use Rattle.blocks.specs.Block.{blockBytes, blockCount, blockAt, sound, inPlace}
 use Rattle.sheet.specs.Layout.{mostNodes, mostSeparation, blocksFor, laidOut}
 use Rattle.sheet.specs.Steps.{RowsRead}
-use Rattle.sheet.proofs.Below.{every-at}
+use Rattle.blocks.proofs.Below.{every-at}
 use Rattle.sheet.specs.Read.{nodesOf, separationOf, someBlockFails, lengthWrong, within, roomWrong, fileConditions, conditions, fileNumber, refusal, numberRead, SheetRead}
 
 pub long-enough : (bytes : ℕ) → lengthWrong bytes ≡ false → blockBytes * 2 ≤ bytes

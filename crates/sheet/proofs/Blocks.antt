@@ -1,21 +1,13 @@
--- The blocks of a file are whole, and a walk over them with a test that stops at the first block that fails. Assumes nothing.
+-- A walk over the blocks of a file with a test that stops at the first block that fails. Assumes nothing.
 use mathlib.Core.Path.{_≡_, sym, ap, _∙_}
-use Prim.Native.Nat.{ℕ, _+_, _*_, _≤_, _<_}
-use native.Mathlib.Omega.{arith}
+use Prim.Native.Nat.{ℕ, _+_, _≤_, _<_}
 use mathlib.Core.Bool.{Bool, true, false, not}
 use mathlib.Core.List.{List}
-use lib.ListN.{length, drop, length-drop}
-use lib.Seq.{length-take-le}
 use borrow.Author.Tests.{not-true, not-false}
-use Rattle.sheet.specs.Below.{every}
-use Rattle.sheet.specs.Block.{blockBytes, blockCount, blockAt}
+use Rattle.blocks.specs.Below.{every}
+use Rattle.blocks.specs.Block.{blockCount, blockAt, IsBlock}
 use Rattle.sheet.specs.Read.{someBlockFails}
-use Rattle.sheet.specs.Steps.{IsBlock}
-use Rattle.sheet.proofs.Below.{every-more, some-fails, none-fails}
-
-pub length-block : (file : List ℕ) (b : ℕ) → blockBytes * b + blockBytes ≤ length file → length (blockAt file b) ≡ blockBytes
-unfolding blockAt
-length-block file b h = length-take-le blockBytes (drop (blockBytes * b) file) (omega (arith, length-drop (blockBytes * b) file))
+use Rattle.blocks.proofs.Below.{every-more, some-fails, none-fails}
 
 -- the test holds for the blocks before block b
 abbrev pub Passed : (ℕ → List ℕ → Bool) → List ℕ → ℕ → Type 0

@@ -1,21 +1,20 @@
--- What the check sees: of a sound block, one word changed, and two unequal words side by side swapped, give 10. Assumes nothing.
+-- What the check sees: one word of a sound block changed, and two unequal words side by side swapped, give 10, of the reader's number and
+-- of what a call returns. Assumes nothing.
 use mathlib.Core.Path.{_≡_, refl, sym, ap, ap₂, _∙_}
-use Prim.Native.Nat.{ℕ, zero, suc, _+_, _*_, _/_, _%_, _≤_, _<_}
+use Prim.Native.Nat.{ℕ, suc, _+_, _*_, _/_, _%_, _≤_, _<_}
 use native.Mathlib.Numerals.{add-one}
 use native.Mathlib.Omega.{arith}
-use mathlib.Core.Bool.{Bool, true, false, not, true≢false}
+use mathlib.Core.Bool.{Bool, true, false, not}
 use mathlib.Core.List.{List, [], _∷_}
-use lib.ListN.{length, getD, take, drop, set, length-set}
-use lib.Seq.{sets, length-sets, getD-set-same, getD-set-other, getD-take, getD-drop}
+use lib.ListN.{length, getD, drop, set, length-set}
+use lib.Seq.{length-sets, getD-set-same, getD-set-other, getD-take, getD-drop}
 use Rattle.refusal.proofs.After.{granted-refused, after-refused}
-use Rattle.sheet.specs.Block.{blockWords, blockBytes, blockCount, wordLimit, weightedPlace, wordAt, bytesOf, blockAt, wordSum, weightedSum, sound}
+use Rattle.blocks.specs.Block.{blockWords, blockBytes, blockCount, wordLimit, weightedPlace, wordAt, bytesOf, blockAt, wordSum, weightedSum, sound, EachBelow}
 use Rattle.sheet.specs.Read.{lengthWrong, checkWrong, refusal, numberRead, SheetRead}
-use Rattle.sheet.specs.File.{EachBelow}
 use Rattle.sheet.specs.Damage.{fileWord, withWord, swapped}
 use Rattle.sheet.specs.declared.Sheet.{Sheet}
-use Rattle.sheet.proofs.Below.{total-but-one, some-fails}
-use Rattle.sheet.proofs.Words.{word-below, sound-weighted, sound-sum}
-use Rattle.sheet.proofs.Rewritten.{block-below}
+use Rattle.blocks.proofs.Below.{total-but-one, some-fails}
+use Rattle.blocks.proofs.Words.{word-below, sound-weighted, sound-sum, block-below}
 
 -- ---- the words of a file with a word changed
 
@@ -71,6 +70,25 @@ module _ (file : List ℕ) (b k w : ℕ) where
 
 -- ---- what is seen
 
+-- a call that gives 10, and changes nothing
+abbrev pub Seen : List ℕ → List ℕ → List ℕ → Sheet → List ℕ → List ℕ → List ℕ → Type 0
+Seen table tapes halfWidths answer table′ tapes′ halfWidths′ =
+    (answer ≡ record { number = 10; nodes = 0; separation = 0 }) × (table′ ≡ table) × (tapes′ ≡ tapes) × (halfWidths′ ≡ halfWidths)
+
+module _ (damaged table tapes halfWidths : List ℕ) (answer : Sheet) (table′ tapes′ halfWidths′ : List ℕ)
+    (read : SheetRead damaged table tapes halfWidths answer table′ tapes′ halfWidths′) where
+  seen : numberRead damaged table tapes halfWidths ≡ 10 → Seen table tapes halfWidths answer table′ tapes′ halfWidths′
+  seen ten =
+      let refused : numberRead damaged table tapes halfWidths ≡ 0 → ⊥ = λ e. omega arith in
+      let number : answer .number ≡ 10 = read .number ∙ ten in
+      let nodes : answer .nodes ≡ 0 = read .nodes ∙ granted-refused _ _ 0 refused in
+      let separation : answer .separation ≡ 0 = read .separation ∙ granted-refused _ _ 0 refused in (
+        (λ i. record { number = number i; nodes = nodes i; separation = separation i }),
+        read .table-after ∙ after-refused _ _ table refused,
+        read .tapes-after ∙ after-refused _ _ tapes refused,
+        read .half-widths-after ∙ after-refused _ _ halfWidths refused,
+      )
+
 module _ (file : List ℕ) (b : ℕ) (bytes : EachBelow 256 file) (size : lengthWrong (length file) ≡ false) (there : b < blockCount file)
     (check : sound (blockAt file b) ≡ true) where
   room : blockBytes * b + blockBytes ≤ length file
@@ -107,6 +125,12 @@ module _ (file : List ℕ) (b : ℕ) (bytes : EachBelow 256 file) (size : length
 
     pub change-refused : (tableLength tapesLength halfWidthsLength : ℕ) → refusal (withWord file b k w) tableLength tapesLength halfWidthsLength ≡ 10
     change-refused = gives-ten (withWord file b k w) (length-with file b k w) changed-unsound
+
+    pub change-seen : (table tapes halfWidths : List ℕ) (answer : Sheet) (table′ tapes′ halfWidths′ : List ℕ)
+        → SheetRead (withWord file b k w) table tapes halfWidths answer table′ tapes′ halfWidths′
+        → Seen table tapes halfWidths answer table′ tapes′ halfWidths′
+    change-seen table tapes halfWidths answer table′ tapes′ halfWidths′ read =
+        seen _ table tapes halfWidths answer table′ tapes′ halfWidths′ read (change-refused (length table) (length tapes) (length halfWidths))
 
   -- two unequal words side by side, before the check words, that are swapped
   module _ (k : ℕ) (place : k + 1 < weightedPlace) (unequal : fileWord file b k ≡ fileWord file b (k + 1) → ⊥) where
@@ -156,3 +180,9 @@ module _ (file : List ℕ) (b : ℕ) (bytes : EachBelow 256 file) (size : length
     pub swap-refused : (tableLength tapesLength halfWidthsLength : ℕ) → refusal (swapped file b k) tableLength tapesLength halfWidthsLength ≡ 10
     swap-refused =
         gives-ten (swapped file b k) (length-with half b (k + 1) left ∙ length-with file b k right) swapped-unsound
+
+    pub swap-seen : (table tapes halfWidths : List ℕ) (answer : Sheet) (table′ tapes′ halfWidths′ : List ℕ)
+        → SheetRead (swapped file b k) table tapes halfWidths answer table′ tapes′ halfWidths′
+        → Seen table tapes halfWidths answer table′ tapes′ halfWidths′
+    swap-seen table tapes halfWidths answer table′ tapes′ halfWidths′ read =
+        seen _ table tapes halfWidths answer table′ tapes′ halfWidths′ read (swap-refused (length table) (length tapes) (length halfWidths))

@@ -1,15 +1,15 @@
 -- The paper's example: the root with tape 500 and its leaves 501 and 502, D = 3, half-widths 0. Its blocks with their check words,
 -- 23 and 65,506 and then 15,029 and 49,001, and what reading its file gives, all by computation. Assumes nothing.
 use mathlib.Core.Path.{_≡_, refl}
-use Prim.Native.Nat.{ℕ, _-_, _*_}
+use Prim.Native.Nat.{ℕ, _*_}
 use mathlib.Core.Bool.{true, false}
 use mathlib.Core.List.{List, [], _∷_, _++_}
 use lib.ListN.{length, replicate}
-use Rattle.sheet.specs.Below.{total, every, joined}
-use Rattle.sheet.specs.Block.{blockBytes, closingPlace, wordAt, bytesOf, blockAt, wordSum, weightedSum, sound, closing, inPlace}
+use Rattle.blocks.specs.Below.{total, every, joined}
+use Rattle.blocks.specs.Block.{blockBytes, wordAt, bytesOf, blockAt, wordSum, weightedSum, sound, closing, inPlace, padded, weighed, closed}
 use Rattle.sheet.specs.Layout.{mostNodes, blocksFor, countWord, usedWords, fixedHold}
 use Rattle.sheet.specs.Read.{refusal}
-use Rattle.sheet.specs.File.{row, content, padded, weighed, closed, blockOf, fileOf, ReadBack}
+use Rattle.sheet.specs.File.{row, content, blockOf, fileOf, ReadBack}
 
 -- first child and next sibling of each node; 65,535 is none
 abbrev pub links : List ℕ
@@ -47,24 +47,7 @@ block-counts = (refl, refl, refl)
 pub greatest-length : blockBytes * blocksFor mostNodes ≡ 11264
 greatest-length = refl
 
--- ---- blocks with few words that are not 0
-
--- all words 0 but for word k, which is 1
-abbrev single : ℕ → List ℕ
-single k = bytesOf (replicate k 0 ++ 1 ∷ replicate (closingPlace - k) 0)
-
--- the first word weighs 1, the last one 254, and the check words nothing
-pub weights : (weightedSum (wordAt (single 0)) ≡ 1) × (weightedSum (wordAt (single 253)) ≡ 254) × (weightedSum (wordAt (single 254)) ≡ 0)
-unfolding total wordAt bytesOf weightedSum
-weights = (refl, refl, refl)
-
--- a block that is sound, one in which the plain sum alone is wrong, and one in which the weighted sum alone is
-pub check-cases : (sound (bytesOf (1 ∷ replicate 253 0 ++ 1 ∷ 65534 ∷ [])) ≡ true) × (sound (single 255) ≡ false)
-    × (sound (bytesOf (replicate 254 0 ++ 1 ∷ 65535 ∷ [])) ≡ false)
-unfolding total wordAt bytesOf wordSum weightedSum sound
-check-cases = (refl, refl, refl)
-
 -- the layout fixes word 253, and neither check word
-pub fixed-cases : (fixedHold 0 4 (single 253) ≡ false) × (fixedHold 0 4 (single 254) ≡ true) × (fixedHold 0 4 (single 255) ≡ true)
+pub fixed-cases : (fixedHold 0 4 (bytesOf (replicate 253 0 ++ 1 ∷ 0 ∷ 0 ∷ [])) ≡ false) × (fixedHold 0 4 (bytesOf (replicate 254 0 ++ 1 ∷ 0 ∷ [])) ≡ true) × (fixedHold 0 4 (bytesOf (replicate 255 0 ++ 1 ∷ [])) ≡ true)
 unfolding every wordAt bytesOf fixedHold
 fixed-cases = (refl, refl, refl)

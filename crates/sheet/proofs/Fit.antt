@@ -4,11 +4,11 @@ use native.Mathlib.Nat.{le-refl}
 use native.Mathlib.Omega.{arith}
 use mathlib.Core.List.{List, [], _∷_, _++_}
 use lib.ListN.{length, getD, replicate}
-use Rattle.sheet.specs.Below.{joined}
-use Rattle.sheet.specs.Block.{wordLimit, weightedPlace, bytesOf, weightedSum, closing}
+use Rattle.blocks.specs.Below.{joined}
+use Rattle.blocks.specs.Block.{wordLimit, weightedPlace, bytesOf, weightedSum, closing, padded, weighed, closed, EachBelow}
 use Rattle.sheet.specs.Layout.{blockRows, blocksFor, rowsIn, countWord}
-use Rattle.sheet.specs.File.{row, content, padded, weighed, closed, blockOf, fileOf, EachBelow, Contents}
-use Rattle.sheet.proofs.Below.{further}
+use Rattle.sheet.specs.File.{row, content, blockOf, fileOf, Contents}
+use Rattle.blocks.proofs.Below.{further}
 
 module _ (m : ℕ) (positive : 0 < m) where
   none-below : EachBelow m []

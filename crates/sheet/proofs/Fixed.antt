@@ -9,9 +9,9 @@ use mathlib.Core.List.{List}
 use mathlib.Core.Option.{none, some}
 use lib.Dec.{eqb}
 use borrow.Author.Tests.{lt-ltb, le-ltb, eq-eqb, ne-eqb, eqb-true}
-use Rattle.sheet.specs.Block.{weightedPlace, wordAt}
+use Rattle.blocks.specs.Block.{weightedPlace, wordAt}
 use Rattle.sheet.specs.Layout.{firstWord, headerMark, headerWords, rowWord, rowsIn, countWord, usedWords, fixed, agrees, fixedHold, laidOut}
-use Rattle.sheet.proofs.Below.{every-at}
+use Rattle.blocks.proofs.Below.{every-at}
 
 module _ (count used : ℕ) (block : List ℕ) where
   -- a used word: word 1 is the count, and the others are free

@@ -8,10 +8,10 @@ use lib.ListN.{length, length-append}
 use lib.Seq.{sets}
 use Rattle.refusal.specs.After.{overwrite}
 use Rattle.refusal.proofs.After.{length-overwrite, overwrite-again, sets-append, sets-start}
-use Rattle.sheet.specs.Below.{joined}
+use Rattle.blocks.specs.Below.{joined}
 use Rattle.sheet.specs.Read.{nodePair, nodeSingle}
 use Rattle.sheet.specs.Steps.{Room, RowRead, RowsRead}
-use Rattle.sheet.proofs.Below.{joined-more, length-joined}
+use Rattle.blocks.proofs.Below.{joined-more, length-joined}
 
 -- entries stored behind those at a slice's start
 stored-behind : (new more old : List ℕ) (at : ℕ) → length new ≡ at → at + length more ≤ length old

@@ -4,19 +4,18 @@ use Prim.Native.Nat.{ℕ, zero, suc, _+_, _*_, _/_, _%_, _<_}
 use native.Mathlib.Nat.{le-of-eq, lt-of-lt-of-le, add-zero}
 use native.Mathlib.Omega.{arith}
 use mathlib.Core.List.{List, _∷_}
-use lib.ListN.{length, getD, take, drop, length-take, List·getD-eq-default}
-use lib.Seq.{take-all, getD-take, getD-drop}
+use lib.ListN.{length, getD, List·getD-eq-default}
+use lib.Seq.{take-all}
 use borrow.Author.Tests.{eqb-true}
-use Rattle.sheet.specs.Below.{joined}
-use Rattle.sheet.specs.Block.{blockWords, blockBytes, blockCount, wordLimit, weightedPlace, closingPlace, wordAt, bytesOf, blockAt, inPlace}
+use Rattle.blocks.specs.Below.{joined}
+use Rattle.blocks.specs.Block.{blockWords, blockBytes, blockCount, weightedPlace, closingPlace, wordAt, bytesOf, blockAt, inPlace, EachBelow}
 use Rattle.sheet.specs.Layout.{blockRows, rowWords, blocksFor, nodeBlock, nodeWord, rowsIn, countWord, usedWords}
 use Rattle.sheet.specs.Read.{nodesOf, separationOf, nodePair, nodeSingle, tableOf, tapesOf, halfWidthsOf, refusal}
-use Rattle.sheet.specs.File.{row, content, blockOf, fileOf, EachBelow}
+use Rattle.sheet.specs.File.{row, content, blockOf, fileOf}
 use Rattle.sheet.proofs.Answer.{Accepted, accepted}
-use Rattle.sheet.proofs.Below.{split, joined-cong, getD-joined, parts-joined}
-use Rattle.sheet.proofs.Blocks.{length-block}
+use Rattle.blocks.proofs.Below.{split, joined-cong, getD-joined, parts-joined}
+use Rattle.blocks.proofs.Words.{length-block, block-below, bytes-words, word-below, length-whole, whole-unique}
 use Rattle.sheet.proofs.Fixed.{count-held, unused-held}
-use Rattle.sheet.proofs.Words.{bytes-words, word-below, length-whole, whole-unique}
 use Rattle.sheet.proofs.Written.{length-body, used-least, body-fits}
 
 module _ (file : List ℕ) (n : ℕ) where
@@ -46,20 +45,6 @@ module _ (file : List ℕ) (n : ℕ) where
   row-word r (suc (suc (suc zero))) l m = second-word 2 r l
   row-word r (suc (suc (suc (suc zero)))) l m = single-word 4 r l
   row-word r (suc (suc (suc (suc (suc j))))) l m = absurd (omega arith)
-
--- the bytes of a block are bytes of the file
-pub block-below : (file : List ℕ) (b : ℕ) → EachBelow 256 file → EachBelow 256 (blockAt file b)
-unfolding blockAt
-block-below file b fits i =
-    split blockBytes i
-    (λ l.
-    let past = List·getD-eq-default (take blockBytes (drop (blockBytes * b) file)) 0 {n = i}
-    (omega (arith, length-take blockBytes (drop (blockBytes * b) file)))
-    in
-    omega arith)
-    (λ l.
-    let same = getD-take blockBytes (drop (blockBytes * b) file) i 0 l ∙ getD-drop (blockBytes * b) file i 0 in
-    omega (arith, fits (blockBytes * b + i)))
 
 module _ (file : List ℕ) (tableLength tapesLength halfWidthsLength : ℕ) (held : Accepted file tableLength tapesLength halfWidthsLength) where
   abbrev n : ℕ

@@ -8,13 +8,13 @@ use lib.ListN.{length}
 use borrow.Author.Tests.{eq-eqb, le-ltb, le-leb}
 use Rattle.refusal.specs.After.{overwrite}
 use Rattle.refusal.proofs.After.{after-accepted}
-use Rattle.sheet.specs.Block.{blockBytes, blockCount, blockAt, sound, inPlace}
+use Rattle.blocks.specs.Block.{blockBytes, blockCount, blockAt, sound, inPlace}
 use Rattle.sheet.specs.Layout.{mostNodes, mostSeparation, blocksFor, laidOut}
 use Rattle.sheet.specs.Read.{nodesOf, separationOf, tableOf, tapesOf, halfWidthsOf, someBlockFails, lengthWrong, checkWrong, placeWrong, layoutWrong, roomWrong, refusal, SheetRead}
 use Rattle.sheet.specs.File.{content, fileOf, Contents, ReadBack}
 use Rattle.sheet.specs.declared.Sheet.{Sheet}
-use Rattle.sheet.proofs.Below.{every-holds, joined-cong}
-use Rattle.sheet.proofs.Words.{pairs-joined, singles-joined}
+use Rattle.blocks.proofs.Below.{every-holds, joined-cong}
+use Rattle.sheet.proofs.Pairs.{pairs-joined, singles-joined}
 use Rattle.sheet.proofs.Written.{length-file, word-read, check-read, place-read, laid-read, links-read, tape-read, half-width-read}
 
 module _ (n separation : ℕ) (table tapes halfWidths : List ℕ) (held : Contents n separation table tapes halfWidths) where

@@ -8,14 +8,14 @@ use mathlib.Core.List.{List, [], _∷_}
 use lib.ListN.{length, getD, take, List·getD-eq-default}
 use lib.Seq.{getD-take}
 use borrow.Author.Tests.{eq-eqb}
-use Rattle.sheet.specs.Block.{blockBytes, weightedPlace, wordAt, bytesOf, blockAt, sound, inPlace}
+use Rattle.blocks.specs.Block.{blockBytes, weightedPlace, wordAt, bytesOf, blockAt, sound, inPlace, padded, weighed, closed}
 use Rattle.sheet.specs.Layout.{blockRows, rowWords, blocksFor, nodeBlock, nodeWord, rowsIn, countWord, usedWords, fixedHold, laidOut}
 use Rattle.sheet.specs.Read.{nodePair, nodeSingle}
-use Rattle.sheet.specs.File.{row, content, padded, weighed, closed, blockOf, fileOf}
+use Rattle.sheet.specs.File.{row, content, blockOf, fileOf}
 use Rattle.sheet.specs.Steps.{pairOf}
-use Rattle.sheet.proofs.Below.{split, every-holds, joined-cong, length-joined, joined-at, getD-joined}
+use Rattle.blocks.proofs.Below.{split, every-holds, joined-cong, length-joined, joined-at, getD-joined}
 use Rattle.sheet.proofs.Fixed.{used-agrees, unused}
-use Rattle.sheet.proofs.Words.{length-bytes, word-bytes, length-whole, getD-whole, whole-sound}
+use Rattle.blocks.proofs.Words.{length-bytes, word-bytes, length-whole, getD-whole, whole-sound}
 
 module _ (n separation : ℕ) (table tapes halfWidths : List ℕ) where
   -- the used words of block b

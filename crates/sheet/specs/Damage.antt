@@ -2,7 +2,7 @@
 use Prim.Native.Nat.{ℕ, _+_, _*_}
 use mathlib.Core.List.{List, [], _∷_}
 use lib.Seq.{sets}
-use Rattle.sheet.specs.Block.{blockBytes, blockAt, wordAt, bytesOf}
+use Rattle.blocks.specs.Block.{blockBytes, blockAt, wordAt, bytesOf}
 
 -- word k of block b of a file
 abbrev pub fileWord : List ℕ → ℕ → ℕ → ℕ

@@ -1,10 +1,10 @@
 -- The file of a sheet: what a writer has to write, and what reading gives back.
 use mathlib.Core.Path.{_≡_}
-use Prim.Native.Nat.{ℕ, zero, suc, _+_, _-_, _*_, _≤_, _<_}
-use mathlib.Core.List.{List, [], _∷_, _++_}
-use lib.ListN.{length, getD, replicate}
-use Rattle.sheet.specs.Below.{joined}
-use Rattle.sheet.specs.Block.{weightedPlace, bytesOf, weightedSum, closing}
+use Prim.Native.Nat.{ℕ, zero, suc, _+_, _*_, _≤_}
+use mathlib.Core.List.{List, [], _∷_}
+use lib.ListN.{length, getD}
+use Rattle.blocks.specs.Below.{joined}
+use Rattle.blocks.specs.Block.{bytesOf, padded, weighed, closed}
 use Rattle.sheet.specs.Layout.{mostNodes, mostSeparation, blockRows, blocksFor, rowsIn, countWord}
 use Rattle.sheet.specs.Read.{nodesOf, separationOf, tableOf, tapesOf, halfWidthsOf, refusal}
 
@@ -18,18 +18,6 @@ unfoldable pub content : ℕ → ℕ → List ℕ → List ℕ → List ℕ → 
 content n separation table tapes halfWidths zero = n ∷ separation ∷ []
 content n separation table tapes halfWidths (suc b) = joined (rowsIn n b) (λ i. row table tapes halfWidths (blockRows * b + i))
 
--- words with 0 after them up to the check words
-unfoldable pub padded : List ℕ → List ℕ
-padded words = words ++ replicate (weightedPlace - length words) 0
-
--- words with their weighted sum after them
-unfoldable pub weighed : List ℕ → List ℕ
-weighed words = words ++ weightedSum (λ k. getD words k 0) ∷ []
-
--- words with the closing word after them
-unfoldable pub closed : List ℕ → List ℕ
-closed words = words ++ closing words ∷ []
-
 -- the 256 words of block b
 unfoldable pub blockOf : ℕ → ℕ → List ℕ → List ℕ → List ℕ → ℕ → List ℕ
 blockOf n separation table tapes halfWidths b =
@@ -38,10 +26,6 @@ blockOf n separation table tapes halfWidths b =
 -- the file's bytes
 unfoldable pub fileOf : ℕ → ℕ → List ℕ → List ℕ → List ℕ → List ℕ
 fileOf n separation table tapes halfWidths = joined (blocksFor n) (λ b. bytesOf (blockOf n separation table tapes halfWidths b))
-
--- every entry is below m
-abbrev pub EachBelow : ℕ → List ℕ → Type 0
-EachBelow m entries = (i : ℕ) → getD entries i 0 < m
 
 -- what a file can hold: n and D in range, two entries a node in the table and in the tape slice, and one in the half-width slice
 pub record Contents (n separation : ℕ) (table tapes halfWidths : List ℕ) : Type 0 where

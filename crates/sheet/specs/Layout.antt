@@ -5,8 +5,8 @@ use mathlib.Core.Bool.{Bool, true, cond}
 use mathlib.Core.List.{List}
 use mathlib.Core.Option.{Option, none, some}
 use lib.Dec.{eqb, ltb}
-use Rattle.sheet.specs.Below.{every}
-use Rattle.sheet.specs.Block.{weightedPlace, wordAt}
+use Rattle.blocks.specs.Below.{every}
+use Rattle.blocks.specs.Block.{weightedPlace, wordAt}
 
 -- n and D are 1 to 1,024
 abbrev pub mostNodes : ℕ

@@ -7,8 +7,8 @@ use lib.Dec.{eqb, ltb, leb}
 use lib.ListN.{length}
 use Rattle.refusal.specs.First.{Condition, _⇐_, first}
 use Rattle.refusal.specs.After.{granted, after}
-use Rattle.sheet.specs.Below.{every, joined}
-use Rattle.sheet.specs.Block.{blockBytes, blockCount, blockAt, wordAt, sound, inPlace}
+use Rattle.blocks.specs.Below.{every, joined}
+use Rattle.blocks.specs.Block.{blockBytes, blockCount, blockAt, wordAt, sound, inPlace}
 use Rattle.sheet.specs.Layout.{mostNodes, mostSeparation, firstWord, blocksFor, nodeBlock, nodeWord, laidOut}
 use Rattle.sheet.specs.declared.Sheet.{Sheet}
 

@@ -5,16 +5,11 @@ use mathlib.Core.List.{List, [], _∷_}
 use lib.ListN.{length, getD}
 use lib.Seq.{sets}
 use Rattle.refusal.specs.After.{overwrite}
-use Rattle.sheet.specs.Block.{blockBytes, blockAt}
+use Rattle.blocks.specs.Block.{blockBytes}
 use Rattle.sheet.specs.Layout.{firstWord, blocksFor}
 use Rattle.sheet.specs.Read.{nodePair, nodeSingle, tableOf, tapesOf, halfWidthsOf}
 use Rattle.sheet.specs.Walk.{OnRow}
 use Rattle.sheet.specs.declared.walk.RowPlace.{RowPlace}
-
--- a part of a file is its block b, whole
-pub record IsBlock (file : List ℕ) (b : ℕ) (part : List ℕ) : Type 0 where
-  pub bytes : part ≡ blockAt file b
-  pub size : length part ≡ blockBytes
 
 -- the pair of entries numbered r
 abbrev pub pairOf : List ℕ → ℕ → List ℕ

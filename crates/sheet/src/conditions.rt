@@ -2,13 +2,9 @@
 ghost use mathlib.Core.Path.{_≡_};
 ghost use Prim.Native.Nat.{_*_, _<_, _≤_};
 ghost use lib.ListN.{length};
-ghost use Rattle.sheet.specs.Block.{blockBytes};
+ghost use Rattle.blocks.specs.Block.{blockBytes};
 ghost use Rattle.sheet.specs.Layout.{blocksFor};
 ghost use Rattle.sheet.specs.Read.{lengthWrong, checkWrong, placeWrong, within, fixedWrong, layoutWrong, roomWrong, refusal};
-use super::block::BLOCK_BYTES;
-use super::block::block_at;
-use super::block::in_place;
-use super::check::is_sound;
 use super::header::nodes_of;
 use super::header::separation_of;
 use super::layout::FIRST_BLOCK;
@@ -18,6 +14,10 @@ use super::layout::blocks_for;
 use super::layout::header_laid;
 use super::layout::rows_laid;
 use super::layout::rows_of;
+use blocks::BLOCK_BYTES;
+use blocks::block_at;
+use blocks::check::is_sound;
+use blocks::in_place;
 
 const LEAST_BYTES: usize = 1024;
 

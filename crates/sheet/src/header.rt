@@ -2,11 +2,11 @@
 ghost use mathlib.Core.Path.{_≡_};
 ghost use Prim.Native.Nat.{_≤_};
 ghost use lib.ListN.{length};
-ghost use Rattle.sheet.specs.Block.{blockBytes};
+ghost use Rattle.blocks.specs.Block.{blockBytes};
 ghost use Rattle.sheet.specs.Read.{nodesOf, separationOf};
-use super::block::block_at;
-use super::block::word;
 use super::layout::FIRST_WORD;
+use blocks::block_at;
+use blocks::word;
 
 // n.
 pub fn nodes_of(file: &[u8]) -> u16

@@ -2,9 +2,10 @@
 ghost use mathlib.Core.Path.{_≡_};
 ghost use Prim.Native.Nat.{_+_, _<_, _≤_, min};
 ghost use lib.ListN.{length};
-ghost use Rattle.sheet.specs.Block.{blockBytes, weightedPlace};
+ghost use Rattle.blocks.specs.Block.{blockBytes, weightedPlace};
 ghost use Rattle.sheet.specs.Layout.{firstWord, headerMark, headerWords, blockRows, rowWord, blocksFor, fixedHold};
-use super::block::word;
+use blocks::WEIGHTED_PLACE;
+use blocks::word;
 
 pub const MOST_NODES: usize = 1024;
 
@@ -23,10 +24,6 @@ pub const LAST_ROW_WORD: usize = 247;
 pub const HEADER_MARK: usize = 1;
 
 pub const HEADER_WORDS: usize = 2;
-
-pub const WEIGHTED_PLACE: usize = 254;
-
-pub const CLOSING_PLACE: usize = 255;
 
 // How many blocks a sheet takes.
 pub fn blocks_for(nodes: usize) -> usize

@@ -2,8 +2,6 @@
 // slice, a tape slice and a half-width slice.
 ghost use Rattle.sheet.specs.Read.{SheetRead};
 
-pub mod block;
-pub mod check;
 mod conditions;
 mod header;
 pub mod layout;

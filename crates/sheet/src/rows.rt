@@ -6,13 +6,13 @@ ghost use Rattle.sheet.specs.Layout.{firstWord};
 ghost use Rattle.sheet.specs.Read.{pairAt};
 ghost use Rattle.sheet.specs.Walk.{OnRow};
 ghost use Rattle.sheet.specs.Steps.{storePair, Room, RowRead, RowsRead, BlockRead};
-use super::block::block_at;
-use super::block::word;
 use super::layout::FIRST_WORD;
 use super::layout::LAST_ROW_WORD;
 use super::walk::RowPlace;
 use super::walk::first_row;
 use super::walk::next_row;
+use blocks::block_at;
+use blocks::word;
 
 // Copies two words of a block, from word `from` on, to the pair of entries numbered `pair`.
 fn copy_pair(block: &[u8], from: usize, entries: &mut [u16], pair: usize)

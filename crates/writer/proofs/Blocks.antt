@@ -9,11 +9,11 @@ use lib.ListN.{length}
 use borrow.Rule.Slice.PartMut.{midOf, putMid}
 use Rattle.refusal.specs.After.{overwrite}
 use Rattle.refusal.proofs.After.{length-overwrite, overwrite-again, overwrite-more}
-use Rattle.sheet.specs.Below.{joined}
-use Rattle.sheet.specs.Block.{blockBytes, bytesOf}
+use Rattle.blocks.specs.Below.{joined}
+use Rattle.blocks.specs.Block.{blockBytes, bytesOf}
 use Rattle.sheet.specs.Layout.{headerMark, blockRows, blocksFor, nodeBlock, rowsIn, countWord}
 use Rattle.sheet.specs.File.{content, blockOf, fileOf}
-use Rattle.sheet.proofs.Below.{joined-more, length-joined}
+use Rattle.blocks.proofs.Below.{joined-more, length-joined}
 use Rattle.sheet.proofs.Written.{block-size}
 use Rattle.writer.specs.Steps.{rowsFrom, blockOver}
 

@@ -5,9 +5,8 @@ use native.Mathlib.Nat.{lt-of-lt-of-le, le-of-eq}
 use native.Mathlib.Omega.{arith}
 use mathlib.Core.List.{List, [], _∷_, append-assoc}
 use lib.ListN.{length, getD, replicate}
-use Rattle.sheet.specs.Block.{blockBytes, wordLimit, weightedPlace, wordAt, wordSum, weightedSum, closes, closing}
-use Rattle.sheet.specs.File.{padded, weighed, closed}
-use Rattle.sheet.proofs.Words.{sum-cong, weighted-cong, sum-more, length-padded, length-whole, before-weighted, at-weighted}
+use Rattle.blocks.specs.Block.{blockBytes, wordLimit, weightedPlace, wordAt, wordSum, weightedSum, closes, closing, padded, weighed, closed}
+use Rattle.blocks.proofs.Words.{sum-cong, weighted-cong, sum-more, length-padded, length-whole, before-weighted, at-weighted}
 use Rattle.writer.specs.Steps.{storeWords, zeroed, checkWords, closeBlock, blockOver}
 use Rattle.writer.proofs.Stored.{store-more, stored-start, word-stored}
 

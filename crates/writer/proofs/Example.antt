@@ -8,10 +8,10 @@ use Rattle.refusal.specs.After.{overwrite, after}
 use Rattle.tree.specs.Forest.{forest, treeOf}
 use Rattle.tree.specs.WellFormed.{badLength, badEntry, rootHasSibling, namedTwice, unnamed, notReached, tableConditions}
 use Rattle.distance.specs.Needed.{badSeparation, badHalfWidths}
-use Rattle.sheet.specs.Below.{total, joined}
-use Rattle.sheet.specs.Block.{bytesOf, wordSum, weightedSum, closing}
+use Rattle.blocks.specs.Below.{total, joined}
+use Rattle.blocks.specs.Block.{bytesOf, wordSum, weightedSum, closing, padded, weighed, closed}
 use Rattle.sheet.specs.Layout.{countWord}
-use Rattle.sheet.specs.File.{row, content, padded, weighed, closed, blockOf, fileOf}
+use Rattle.sheet.specs.File.{row, content, blockOf, fileOf}
 use Rattle.sheet.proofs.Example.{links, tapes, halfWidths, header-words, rows-words}
 use Rattle.writer.specs.Write.{sheetFile, writeNumber, SheetWritten}
 use Rattle.writer.specs.declared.Written.{Written}

@@ -18,10 +18,10 @@ use Rattle.tree.proofs.Stands.{accepted-numbers, accepted-length}
 use Rattle.distance.specs.Needed.{halfWidth, badSeparation, badHalfWidths}
 use Rattle.distance.proofs.Separation.{separation-good}
 use Rattle.distance.proofs.HalfWidths.{narrow-good, first-alike}
-use Rattle.sheet.specs.Block.{blockBytes}
+use Rattle.blocks.specs.Block.{blockBytes, EachBelow}
 use Rattle.sheet.specs.Layout.{blocksFor}
 use Rattle.sheet.specs.Read.{nodesOf, separationOf, tableOf, tapesOf, halfWidthsOf, numberRead, SheetRead}
-use Rattle.sheet.specs.File.{fileOf, EachBelow, Contents}
+use Rattle.sheet.specs.File.{fileOf, Contents}
 use Rattle.sheet.specs.declared.Sheet.{Sheet}
 use Rattle.sheet.proofs.Answer.{Accepted, accepted}
 use Rattle.sheet.proofs.Rewritten.{read-and-written}

@@ -7,7 +7,7 @@ use mathlib.Core.List.{List, [], _∷_}
 use lib.ListN.{length, replicate, length-replicate, replicate-append-replicate}
 use Rattle.sheet.specs.Layout.{firstWord, rowWords, rowWord, nodeWord, blockRows, rowsIn}
 use Rattle.sheet.specs.File.{row}
-use Rattle.sheet.proofs.Below.{joined-more, length-joined}
+use Rattle.blocks.proofs.Below.{joined-more, length-joined}
 use Rattle.sheet.proofs.Places.{row-at}
 use Rattle.writer.specs.Steps.{storeWords, rowsFrom}
 use Rattle.writer.proofs.Stored.{stored-next}

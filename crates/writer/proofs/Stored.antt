@@ -8,8 +8,8 @@ use lib.ListN.{length, getD, set, drop, List·getD-append}
 use lib.Seq.{length-sets}
 use Rattle.refusal.specs.After.{overwrite}
 use Rattle.refusal.proofs.After.{sets-append, sets-start}
-use Rattle.sheet.specs.Block.{wordAt, bytesOf}
-use Rattle.sheet.proofs.Words.{length-bytes, word-bytes}
+use Rattle.blocks.specs.Block.{wordAt, bytesOf}
+use Rattle.blocks.proofs.Words.{length-bytes, word-bytes}
 use Rattle.writer.specs.Steps.{storeWords}
 
 -- ---- bytes of words

@@ -5,10 +5,10 @@ use mathlib.Core.List.{List, [], _∷_}
 use lib.ListN.{length, replicate}
 use lib.Seq.{sets}
 use Rattle.refusal.specs.After.{overwrite}
-use Rattle.sheet.specs.Below.{joined}
-use Rattle.sheet.specs.Block.{wordLimit, weightedPlace, wordAt, bytesOf, wordSum, weightedSum, closes}
+use Rattle.blocks.specs.Below.{joined}
+use Rattle.blocks.specs.Block.{wordLimit, weightedPlace, wordAt, bytesOf, wordSum, weightedSum, closes, padded, weighed, closed}
 use Rattle.sheet.specs.Layout.{blockRows, rowsIn}
-use Rattle.sheet.specs.File.{row, padded, weighed, closed}
+use Rattle.sheet.specs.File.{row}
 use Rattle.sheet.specs.Walk.{OnRow}
 use Rattle.sheet.specs.declared.walk.RowPlace.{RowPlace}
 use Rattle.writer.specs.Write.{sheetFile}

@@ -12,7 +12,7 @@ mod block;
 
 use block::write_block;
 use block::write_header;
-use sheet::block::BLOCK_BYTES;
+use blocks::BLOCK_BYTES;
 use sheet::layout::blocks_for;
 use sheet::walk::first_row;
 

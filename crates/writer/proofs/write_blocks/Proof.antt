@@ -10,7 +10,7 @@ use borrow.Rule.Slice.PartMut.{mid-len}
 use Rattle.refusal.specs.After.{overwrite}
 use Rattle.tree.specs.Table.{nodes}
 use Rattle.tree.proofs.Stands.{accepted-numbers, accepted-length}
-use Rattle.sheet.specs.Block.{blockBytes}
+use Rattle.blocks.specs.Block.{blockBytes}
 use Rattle.sheet.specs.Layout.{blockRows, blocksFor}
 use Rattle.sheet.specs.Walk.{OnRow}
 use Rattle.sheet.proofs.Written.{length-file}

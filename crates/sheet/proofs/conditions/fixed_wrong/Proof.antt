@@ -3,8 +3,8 @@
 use mathlib.Core.Path.{_≡_, refl, _∙_}
 use Prim.Native.Nat.{_-_, _*_, _≤_}
 use native.Mathlib.Omega.{arith}
-use Rattle.sheet.specs.Below.{every}
-use Rattle.sheet.specs.Block.{blockCount}
+use Rattle.blocks.specs.Below.{every}
+use Rattle.blocks.specs.Block.{blockCount}
 use Rattle.sheet.specs.Layout.{blockRows, rowsIn, laidOut}
 use Rattle.sheet.proofs.Blocks.{Passed, block-fails, block-passes, all-pass}
 use Rattle.sheet.proofs.Fixed.{laid-header, laid-rows}

@@ -5,7 +5,7 @@ use borrow.Author.Needs.{needs}
 use mathlib.Core.Bool.{true}
 use lib.ListN.{length}
 use borrow.Author.Tests.{not-true, not-false, eq-eqb, ne-eqb}
-use Rattle.sheet.specs.Block.{blockBytes}
+use Rattle.blocks.specs.Block.{blockBytes}
 use Rattle.sheet.specs.Layout.{mostNodes, mostSeparation, blocksFor}
 use Rattle.sheet.specs.Read.{nodesOf, separationOf, within, fixedWrong}
 use Rattle.sheet.proofs.conditions.layout_wrong.Statement.{statement}

@@ -2,7 +2,7 @@
 use Prim.Native.Nat.{_*_}
 use native.Mathlib.Omega.{arith}
 use borrow.Author.Tests.{ne-eqb, eq-eqb, lt-ltb, le-ltb}
-use Rattle.sheet.specs.Block.{blockBytes}
+use Rattle.blocks.specs.Block.{blockBytes}
 use Rattle.sheet.proofs.conditions.length_wrong.Statement.{statement}
 use Rattle.sheet.proofs.conditions.length_wrong.Tie as tie
 

@@ -2,8 +2,8 @@
 use mathlib.Core.Path.{refl}
 use Prim.Native.Nat.{_-_, _≤_}
 use native.Mathlib.Omega.{arith}
-use Rattle.sheet.specs.Below.{every}
-use Rattle.sheet.specs.Block.{blockCount, inPlace}
+use Rattle.blocks.specs.Below.{every}
+use Rattle.blocks.specs.Block.{blockCount, inPlace}
 use Rattle.sheet.proofs.Blocks.{Passed, block-fails, block-passes, all-pass}
 use Rattle.sheet.proofs.conditions.place_wrong.Statement.{statement}
 use Rattle.sheet.proofs.conditions.place_wrong.Tie as tie

@@ -3,7 +3,7 @@ use mathlib.Core.Path.{ap, _∙_}
 use Prim.Native.Nat.{ℕ}
 use mathlib.Core.List.{List}
 use borrow.Author.Needs.{needs}
-use Rattle.sheet.specs.Block.{wordAt}
+use Rattle.blocks.specs.Block.{wordAt}
 use Rattle.sheet.specs.Layout.{firstWord}
 use Rattle.sheet.proofs.header.nodes_of.Statement.{statement}
 use Rattle.sheet.proofs.header.nodes_of.Tie as tie

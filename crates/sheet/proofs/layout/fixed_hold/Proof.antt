@@ -6,10 +6,10 @@ use borrow.Author.Needs.{needs}
 use mathlib.Core.Bool.{true}
 use lib.Dec.{lit<}
 use borrow.Author.Tests.{eq-eqb, ne-eqb}
-use Rattle.sheet.specs.Below.{every}
-use Rattle.sheet.specs.Block.{weightedPlace, wordAt}
+use Rattle.blocks.specs.Below.{every}
+use Rattle.blocks.specs.Block.{weightedPlace, wordAt}
 use Rattle.sheet.specs.Layout.{fixed, agrees, fixedHold}
-use Rattle.sheet.proofs.Below.{every-more, every-fails, every-holds}
+use Rattle.blocks.proofs.Below.{every-more, every-fails, every-holds}
 use Rattle.sheet.proofs.Fixed.{used-agrees, count-differs, unused}
 use Rattle.sheet.proofs.layout.fixed_hold.Statement.{statement}
 use Rattle.sheet.proofs.layout.fixed_hold.Tie as tie

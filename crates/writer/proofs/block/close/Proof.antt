@@ -3,7 +3,7 @@ use mathlib.Core.Path.{_≡_, refl, ap, ap₂, _∙_}
 use mathlib.Core.List.{[], _∷_}
 use Prim.Native.Nat.{ℕ, _+_, _%_, _<_}
 use native.Mathlib.Omega.{arith}
-use Rattle.sheet.specs.Block.{wordLimit, weightedPlace, closingPlace, wordAt, wordSum, weightedSum, closes}
+use Rattle.blocks.specs.Block.{wordLimit, weightedPlace, closingPlace, wordAt, wordSum, weightedSum, closes}
 use Rattle.writer.specs.Steps.{storeWords, closeBlock}
 use Rattle.writer.proofs.Stored.{stored-next}
 use borrow.Author.Needs.{needs}

@@ -7,7 +7,7 @@ use mathlib.Core.Logic.{inl, inr, ⊎-elim}
 use mathlib.Core.List.{List}
 use lib.ListN.{length}
 use borrow.Author.Tests.{ltb-true, ltb-false}
-use Rattle.sheet.specs.Below.{joined}
+use Rattle.blocks.specs.Below.{joined}
 use Rattle.sheet.specs.Layout.{firstWord, blockRows, rowWord, nodeWord}
 use Rattle.sheet.specs.File.{row}
 use Rattle.sheet.specs.Walk.{OnRow}

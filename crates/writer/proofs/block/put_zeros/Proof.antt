@@ -3,7 +3,7 @@ use mathlib.Core.Path.{_≡_, sym, ap, _∙_}
 use Prim.Native.Nat.{_-_, _≤_}
 use native.Mathlib.Omega.{arith}
 use lib.ListN.{length, replicate}
-use Rattle.sheet.specs.Block.{weightedPlace}
+use Rattle.blocks.specs.Block.{weightedPlace}
 use Rattle.writer.specs.Steps.{storeWords}
 use Rattle.writer.proofs.Stored.{store-none, length-stored}
 use Rattle.writer.proofs.Rows.{zeros-more}
