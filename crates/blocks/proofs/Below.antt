@@ -59,6 +59,14 @@ unfolding total
 total-add m zero f = rw (add-zero m) (sym (add-zero (total m f)))
 total-add m (suc n) f = rw (add-suc, total) (omega (arith, total-add m n f))
 
+-- summands that are 0 from k on
+pub total-start : (k m : ℕ) (f : ℕ → ℕ) → ((j : ℕ) → k ≤ j → j < k + m → f j ≡ 0) → total (k + m) f ≡ total k f
+unfolding total
+total-start k zero f h = rw (add-zero k)
+total-start k (suc m) f h =
+    rw (add-suc k m, total)
+    (omega (arith, total-start k m f (λ j l d. h j l (omega arith)), h (k + m) (omega arith) (omega arith)))
+
 pub total-groups : (c n : ℕ) (f : ℕ → ℕ) → total (c * n) f ≡ total c (λ j. total n (λ i. f (c * i + j)))
 unfolding total
 total-groups c zero f = rw mul-zero (sym (total-none c))

@@ -1,17 +1,17 @@
 -- Both sums of a row of words, from the last word down, and over eight lanes put together. Assumes nothing.
 use mathlib.Core.Path.{_≡_, refl, sym, ap, _∙_}
 use Prim.Native.Nat.{ℕ, zero, suc, _+_, _*_, _%_, _≤_, _<_}
-use native.Mathlib.Nat.{le-refl, zero-add}
+use native.Mathlib.Nat.{le-refl, zero-add, zero-mul}
 use native.Mathlib.Omega.{arith}
 use mathlib.Core.List.{List, [], _∷_}
 use lib.ListN.{length}
 use borrow.Author.Tests.{lt-ltb, le-ltb}
 use Rattle.blocks.specs.Below.{total}
-use Rattle.blocks.specs.Block.{blockWords, wordLimit, weightedPlace, closingPlace, wordAt}
-use Rattle.blocks.specs.Sums.{listed, Summed, More, summedWord, eighths, SideBySide}
+use Rattle.blocks.specs.Block.{blockWords, wordLimit, weightedPlace, wordAt, listed}
+use Rattle.blocks.specs.Sums.{Summed, More, summedWord, eighths, SideBySide}
 use Rattle.blocks.specs.declared.check.Sums.{Sums}
 use Rattle.blocks.specs.declared.check.Lanes.{Lanes}
-use Rattle.blocks.proofs.Below.{further, total-more, total-first, total-both, total-cong, total-groups}
+use Rattle.blocks.proofs.Below.{further, total-first, total-both, total-cong, total-start, total-groups}
 
 -- the sums of no words
 pub summed-none : (f : ℕ → ℕ) → Summed 0 f (record { plain = 0; weighted = 0 })
@@ -70,20 +70,16 @@ lane-none block k l =
 -- the words of a whole block
 pub summed-block : (block : List ℕ) (r : Sums) → Summed blockWords (λ i. summedWord block (0 + i)) r → Summed weightedPlace (wordAt block) r
 summed-block block r S =
-    let last : summedWord block weightedPlace ≡ 0 = not-summed block weightedPlace (omega arith) in
-    let closing : summedWord block closingPlace ≡ 0 = not-summed block closingPlace (omega arith) in
     let word : (k : ℕ) → k < weightedPlace → summedWord block (0 + k) ≡ wordAt block k = λ k l. ap (summedWord block) (zero-add k) ∙ summed-word block k l in
+    let none : (k : ℕ) → weightedPlace ≤ k → summedWord block (0 + k) ≡ 0 = λ k l. ap (summedWord block) (zero-add k) ∙ not-summed block k l in
     record {
-      plain = S .plain ∙ ap (λ (sum : ℕ). sum % wordLimit) (whole _ _ word last closing);
+      plain = S .plain ∙ ap (λ (sum : ℕ). sum % wordLimit) (total-start weightedPlace 2 _ (λ k l m. none k l) ∙ total-cong weightedPlace _ _ word);
       weighted =
           S .weighted
           ∙ ap (λ (sum : ℕ). sum % wordLimit)
-          (whole _ _ (λ k l. ap (λ (w : ℕ). w * (k + 1)) (word k l)) (ap (λ (w : ℕ). w * 255) last) (ap (λ (w : ℕ). w * 256) closing));
+          (total-start weightedPlace 2 _ (λ k l m. ap (λ (w : ℕ). w * (k + 1)) (none k l) ∙ zero-mul (k + 1))
+          ∙ total-cong weightedPlace _ _ (λ k l. ap (λ (w : ℕ). w * (k + 1)) (word k l)));
     }
-  where
-    whole : (f g : ℕ → ℕ) → ((k : ℕ) → k < weightedPlace → f k ≡ g k) → f weightedPlace ≡ 0 → f closingPlace ≡ 0
-        → total blockWords f ≡ total weightedPlace g
-    whole f g same last closing = omega (arith, total-more weightedPlace f, total-more closingPlace f, total-cong weightedPlace f g same)
 
 -- sums of summands that are reduced
 times-reduced : (x k : ℕ) → x % wordLimit * k % wordLimit ≡ x * k % wordLimit

@@ -9,7 +9,7 @@ use lib.ListN.{length, getD, take, drop, replicate, length-append, length-replic
 use lib.Seq.{length-take-le, getD-at, getD-take, getD-drop}
 use borrow.Author.Tests.{eq-eqb, eqb-true}
 use Rattle.refusal.proofs.Truth.{and-left, and-right}
-use Rattle.blocks.specs.Block.{blockWords, blockBytes, wordLimit, weightedPlace, closingPlace, wordAt, bytesOf, blockAt, wordSum, weightedSum, sound, closes, closing, padded, weighed, closed, EachBelow}
+use Rattle.blocks.specs.Block.{blockWords, blockBytes, wordLimit, weightedPlace, closingPlace, wordAt, bytesOf, blockAt, listed, wordSum, weightedSum, sound, closes, closing, padded, weighed, closed, EachBelow}
 use Rattle.blocks.proofs.Below.{split, total-more, total-cong}
 
 pub length-bytes : (words : List ℕ) → length (bytesOf words) ≡ 2 * length words
@@ -99,6 +99,10 @@ pub sum-more : (count : ℕ) (word : ℕ → ℕ) (sum w more : ℕ) → sum ≡
 unfolding wordSum
 sum-more count word sum w more isSum isWord isMore = omega (arith, total-more count word)
 
+-- what brings a sum to zero closes it
+pub closes-left : (w sum : ℕ) → (w + sum) % wordLimit ≡ 0 → w < wordLimit → sum < wordLimit → w ≡ closes sum
+closes-left w sum e wordFits sumFits = omega arith
+
 -- a word that brings the sum of all words to zero, and no other
 pub closes-sum : (word : ℕ → ℕ) → word closingPlace ≡ closes (wordSum closingPlace word) → wordSum blockWords word ≡ 0
 unfolding wordSum
@@ -106,7 +110,7 @@ closes-sum word e = omega (arith, total-more closingPlace word)
 
 pub closes-unique : (word : ℕ → ℕ) → wordSum blockWords word ≡ 0 → word closingPlace < wordLimit → word closingPlace ≡ closes (wordSum closingPlace word)
 unfolding wordSum
-closes-unique word sum fit = omega (arith, total-more closingPlace word)
+closes-unique word sum fit = closes-left _ _ (omega (arith, total-more closingPlace word)) fit (omega arith)
 
 -- what is known of a sound block
 pub sound-weighted : (block : List ℕ) → sound block ≡ true → wordAt block weightedPlace ≡ weightedSum (wordAt block)
@@ -126,7 +130,7 @@ module _ (words : List ℕ) (fits : length words ≤ weightedPlace) where
 
   pub length-weighed : length (weighed (padded words)) ≡ closingPlace
   unfolding weighed
-  length-weighed = omega (arith, length-padded, length-append (padded words) (weightedSum (λ k. getD (padded words) k 0) ∷ []))
+  length-weighed = omega (arith, length-padded, length-append (padded words) (weightedSum (listed (padded words)) ∷ []))
 
   -- all its words
   abbrev pub whole : List ℕ
@@ -142,11 +146,11 @@ module _ (words : List ℕ) (fits : length words ≤ weightedPlace) where
 
   pub before-weighted : (k : ℕ) → k < weightedPlace → getD (weighed (padded words)) k 0 ≡ getD (padded words) k 0
   unfolding weighed
-  before-weighted k l = List·getD-append (padded words) (weightedSum (λ j. getD (padded words) j 0) ∷ []) 0 k (omega (arith, length-padded))
+  before-weighted k l = List·getD-append (padded words) (weightedSum (listed (padded words)) ∷ []) 0 k (omega (arith, length-padded))
 
-  pub at-weighted : getD (weighed (padded words)) weightedPlace 0 ≡ weightedSum (λ k. getD (padded words) k 0)
+  pub at-weighted : getD (weighed (padded words)) weightedPlace 0 ≡ weightedSum (listed (padded words))
   unfolding weighed
-  at-weighted = getD-at (padded words) (weightedSum (λ k. getD (padded words) k 0)) [] 0 weightedPlace length-padded
+  at-weighted = getD-at (padded words) (weightedSum (listed (padded words))) [] 0 weightedPlace length-padded
 
   before-check : (k : ℕ) → k < weightedPlace → getD whole k 0 ≡ getD (padded words) k 0
   before-check k l = before-closing k (omega arith) ∙ before-weighted k l
@@ -156,10 +160,10 @@ module _ (words : List ℕ) (fits : length words ≤ weightedPlace) where
   getD-whole k l = before-check k l ∙ getD-zeros words (weightedPlace - length words) k
 
   -- its check words
-  weighted-word : getD whole weightedPlace 0 ≡ weightedSum (λ k. getD whole k 0)
+  weighted-word : getD whole weightedPlace 0 ≡ weightedSum (listed whole)
   weighted-word = before-closing weightedPlace (omega arith) ∙ at-weighted ∙ sym (weighted-cong _ _ before-check)
 
-  closing-word : getD whole closingPlace 0 ≡ closes (wordSum closingPlace (λ k. getD whole k 0))
+  closing-word : getD whole closingPlace 0 ≡ closes (wordSum closingPlace (listed whole))
   unfolding closed closing
   closing-word =
       getD-at (weighed (padded words)) (closing (weighed (padded words))) [] 0 closingPlace length-weighed
@@ -170,7 +174,7 @@ module _ (words : List ℕ) (fits : length words ≤ weightedPlace) where
   unfolding sound
   whole-sound =
       ap (λ (word : ℕ → ℕ). eqb (word weightedPlace) (weightedSum word) && eqb (wordSum blockWords word) 0) (λ i k. word-bytes whole k i)
-      ∙ rw (eq-eqb _ _ weighted-word) (eq-eqb _ _ (closes-sum (λ k. getD whole k 0) closing-word))
+      ∙ rw (eq-eqb _ _ weighted-word) (eq-eqb _ _ (closes-sum (listed whole) closing-word))
 
   -- and a sound block with these words before the check words has all words of it
   module _ (block : List ℕ) (same : (k : ℕ) → k < weightedPlace → getD words k 0 ≡ wordAt block k) (check : sound block ≡ true)

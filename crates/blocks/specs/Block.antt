@@ -42,6 +42,10 @@ unfoldable pub bytesOf : List ℕ → List ℕ
 bytesOf [] = []
 bytesOf (w ∷ ws) = w % 256 ∷ w / 256 ∷ bytesOf ws
 
+-- word k of a list, and 0 past its end
+abbrev pub listed : List ℕ → ℕ → ℕ
+listed words k = getD words k 0
+
 -- the sum of the first words, modulo 65,536
 unfoldable pub wordSum : ℕ → (ℕ → ℕ) → ℕ
 wordSum count word = total count word % wordLimit
@@ -60,7 +64,7 @@ closes sum = (wordLimit - sum) % wordLimit
 
 -- the word that closes the sum over the words before it
 unfoldable pub closing : List ℕ → ℕ
-closing words = closes (wordSum closingPlace (λ k. getD words k 0))
+closing words = closes (wordSum closingPlace (listed words))
 
 -- words with 0 after them up to the check words
 unfoldable pub padded : List ℕ → List ℕ
@@ -68,7 +72,7 @@ padded words = words ++ replicate (weightedPlace - length words) 0
 
 -- words with their weighted sum after them
 unfoldable pub weighed : List ℕ → List ℕ
-weighed words = words ++ weightedSum (λ k. getD words k 0) ∷ []
+weighed words = words ++ weightedSum (listed words) ∷ []
 
 -- words with the closing word after them
 unfoldable pub closed : List ℕ → List ℕ

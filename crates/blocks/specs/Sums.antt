@@ -4,15 +4,10 @@ use mathlib.Core.Path.{_≡_}
 use mathlib.Core.Bool.{cond}
 use mathlib.Core.List.{List}
 use lib.Dec.{ltb}
-use lib.ListN.{getD}
 use Rattle.blocks.specs.Below.{total}
 use Rattle.blocks.specs.Block.{wordLimit, weightedPlace, wordAt}
 use Rattle.blocks.specs.declared.check.Sums.{Sums}
 use Rattle.blocks.specs.declared.check.Lanes.{Lanes}
-
--- the words of a list by their index
-abbrev pub listed : List ℕ → ℕ → ℕ
-listed words i = getD words i 0
 
 -- the sums of f 0, .., f (count − 1), modulo 65,536: plain, and weighted by one more than the index
 pub record Summed (count : ℕ) (f : ℕ → ℕ) (s : Sums) : Type 0 where

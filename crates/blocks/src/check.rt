@@ -1,12 +1,12 @@
-// A block's check: its plain and its weighted sum, in one pass over its words from word 253 down, and no product. A running plain sum is
-// added into the weighted one at each word, which so counts a word once more than the words before it are. Eight such pairs run side by
-// side, each over every eighth word, as many as the machine adds at once; then they are put together.
+// A block's check: its plain and its weighted sum, in one pass over its words from word 253 down, and no product. At each word the running
+// plain sum is added into the weighted one: a word is counted at itself and at each word before it, once more than its index. Eight such
+// pairs run side by side, each over every eighth word, as many as the machine adds at once; then they are put together.
 ghost use mathlib.Core.Path.{_≡_};
 ghost use mathlib.Core.List.{[], _∷_};
 ghost use Prim.Native.Nat.{_+_, _*_, _%_, _<_, _≤_};
 ghost use lib.ListN.{length};
-ghost use Rattle.blocks.specs.Block.{blockBytes, wordLimit, weightedPlace, wordAt, sound};
-ghost use Rattle.blocks.specs.Sums.{listed, Summed, More, SideBySide, Grouped, Together};
+ghost use Rattle.blocks.specs.Block.{blockBytes, wordLimit, weightedPlace, wordAt, listed, sound};
+ghost use Rattle.blocks.specs.Sums.{Summed, More, SideBySide, Grouped, Together};
 use super::CLOSING_PLACE;
 use super::WEIGHTED_PLACE;
 use super::word;

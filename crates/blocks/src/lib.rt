@@ -8,6 +8,7 @@ pub mod check;
 
 pub const BLOCK_BYTES: usize = 512;
 
+// The places of the check words: of the weighted sum, and of the closing word.
 pub const WEIGHTED_PLACE: usize = 254;
 
 pub const CLOSING_PLACE: usize = 255;

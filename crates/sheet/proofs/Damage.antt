@@ -1,7 +1,8 @@
 -- What the check sees: one word of a sound block changed, and two unequal words side by side swapped, give 10, of the reader's number and
--- of what a call returns. Assumes nothing.
+-- of what a call returns; and so does a file from before word 254 was a check. Assumes nothing.
 use mathlib.Core.Path.{_≡_, refl, sym, ap, ap₂, _∙_}
 use Prim.Native.Nat.{ℕ, suc, _+_, _*_, _/_, _%_, _≤_, _<_}
+use native.Mathlib.Nat.{zero-mul, mod-eq-of-lt}
 use native.Mathlib.Numerals.{add-one}
 use native.Mathlib.Omega.{arith}
 use mathlib.Core.Bool.{Bool, true, false, not}
@@ -9,11 +10,13 @@ use mathlib.Core.List.{List, [], _∷_}
 use lib.ListN.{length, getD, drop, set, length-set}
 use lib.Seq.{length-sets, getD-set-same, getD-set-other, getD-take, getD-drop}
 use Rattle.refusal.proofs.After.{granted-refused, after-refused}
+use Rattle.blocks.specs.Below.{total}
 use Rattle.blocks.specs.Block.{blockWords, blockBytes, blockCount, wordLimit, weightedPlace, wordAt, bytesOf, blockAt, wordSum, weightedSum, sound, EachBelow}
-use Rattle.sheet.specs.Read.{lengthWrong, checkWrong, refusal, numberRead, SheetRead}
-use Rattle.sheet.specs.Damage.{fileWord, withWord, swapped}
+use Rattle.sheet.specs.Read.{nodesOf, separationOf, lengthWrong, checkWrong, refusal, numberRead, SheetRead}
+use Rattle.sheet.specs.Damage.{fileWord, withWord, swapped, Seen, OldHeader}
 use Rattle.sheet.specs.declared.Sheet.{Sheet}
-use Rattle.blocks.proofs.Below.{total-but-one, some-fails}
+use Rattle.blocks.proofs.Below.{total-but-one, total-start, some-fails}
+use Rattle.sheet.proofs.Answer.{long-enough}
 use Rattle.blocks.proofs.Words.{word-below, sound-weighted, sound-sum, block-below}
 
 -- ---- the words of a file with a word changed
@@ -70,11 +73,6 @@ module _ (file : List ℕ) (b k w : ℕ) where
 
 -- ---- what is seen
 
--- a call that gives 10, and changes nothing
-abbrev pub Seen : List ℕ → List ℕ → List ℕ → Sheet → List ℕ → List ℕ → List ℕ → Type 0
-Seen table tapes halfWidths answer table′ tapes′ halfWidths′ =
-    (answer ≡ record { number = 10; nodes = 0; separation = 0 }) × (table′ ≡ table) × (tapes′ ≡ tapes) × (halfWidths′ ≡ halfWidths)
-
 module _ (damaged table tapes halfWidths : List ℕ) (answer : Sheet) (table′ tapes′ halfWidths′ : List ℕ)
     (read : SheetRead damaged table tapes halfWidths answer table′ tapes′ halfWidths′) where
   seen : numberRead damaged table tapes halfWidths ≡ 10 → Seen table tapes halfWidths answer table′ tapes′ halfWidths′
@@ -82,12 +80,26 @@ module _ (damaged table tapes halfWidths : List ℕ) (answer : Sheet) (table′ 
       let refused : numberRead damaged table tapes halfWidths ≡ 0 → ⊥ = λ e. omega arith in
       let number : answer .number ≡ 10 = read .number ∙ ten in
       let nodes : answer .nodes ≡ 0 = read .nodes ∙ granted-refused _ _ 0 refused in
-      let separation : answer .separation ≡ 0 = read .separation ∙ granted-refused _ _ 0 refused in (
-        (λ i. record { number = number i; nodes = nodes i; separation = separation i }),
-        read .table-after ∙ after-refused _ _ table refused,
-        read .tapes-after ∙ after-refused _ _ tapes refused,
-        read .half-widths-after ∙ after-refused _ _ halfWidths refused,
-      )
+      let separation : answer .separation ≡ 0 = read .separation ∙ granted-refused _ _ 0 refused in
+      record {
+        refused = λ i. record { number = number i; nodes = nodes i; separation = separation i };
+        table-kept = read .table-after ∙ after-refused _ _ table refused;
+        tapes-kept = read .tapes-after ∙ after-refused _ _ tapes refused;
+        half-widths-kept = read .half-widths-after ∙ after-refused _ _ halfWidths refused;
+      }
+
+-- a file whose length passes 9 and whose block b is not sound gives 10, whatever else is in it
+module _ (file : List ℕ) (b : ℕ) (size : lengthWrong (length file) ≡ false) (there : b < blockCount file) (unsound : sound (blockAt file b) ≡ true → ⊥) where
+  fails : (right : Bool) → sound (blockAt file b) ≡ right → sound (blockAt file b) ≡ false
+  fails true e = absurd (unsound e)
+  fails false e = e
+
+  wrong : checkWrong file ≡ true
+  wrong = sym (some-fails (blockCount file) (λ c. sound (blockAt file c)) b there (fails _ refl))
+
+  gives-ten : (tableLength tapesLength halfWidthsLength : ℕ) → refusal file tableLength tapesLength halfWidthsLength ≡ 10
+  unfolding refusal
+  gives-ten t s h = rw (size, wrong)
 
 module _ (file : List ℕ) (b : ℕ) (bytes : EachBelow 256 file) (size : lengthWrong (length file) ≡ false) (there : b < blockCount file)
     (check : sound (blockAt file b) ≡ true) where
@@ -96,21 +108,6 @@ module _ (file : List ℕ) (b : ℕ) (bytes : EachBelow 256 file) (size : length
 
   word-fits : (k : ℕ) → fileWord file b k < wordLimit
   word-fits k = word-below (blockAt file b) k (block-below file b bytes)
-
-  -- a file of the same length whose block b is not sound gives 10, whatever else is in it
-  module _ (damaged : List ℕ) (same : length damaged ≡ length file) (unsound : sound (blockAt damaged b) ≡ true → ⊥) where
-    fails : (right : Bool) → sound (blockAt damaged b) ≡ right → sound (blockAt damaged b) ≡ false
-    fails true e = absurd (unsound e)
-    fails false e = e
-
-    wrong : checkWrong damaged ≡ true
-    wrong = sym (some-fails (blockCount damaged) (λ c. sound (blockAt damaged c)) b (omega arith) (fails _ refl))
-
-    gives-ten : (tableLength tapesLength halfWidthsLength : ℕ) → refusal damaged tableLength tapesLength halfWidthsLength ≡ 10
-    unfolding refusal
-    gives-ten t s h =
-        let right : lengthWrong (length damaged) ≡ false = rw same size in
-        rw (right, wrong)
 
   -- a word that is changed to another value
   module _ (k w : ℕ) (place : k < blockWords) (fits : w < wordLimit) (other : w ≡ fileWord file b k → ⊥) where
@@ -124,7 +121,9 @@ module _ (file : List ℕ) (b : ℕ) (bytes : EachBelow 256 file) (size : length
         (omega (arith, sound-sum (blockAt file b) check, sound-sum (blockAt (withWord file b k w) b) check′, with-same file b k w room place, word-fits k))
 
     pub change-refused : (tableLength tapesLength halfWidthsLength : ℕ) → refusal (withWord file b k w) tableLength tapesLength halfWidthsLength ≡ 10
-    change-refused = gives-ten (withWord file b k w) (length-with file b k w) changed-unsound
+    change-refused =
+        let same = length-with file b k w in
+        gives-ten (withWord file b k w) b (rw same size) (rw same there) changed-unsound
 
     pub change-seen : (table tapes halfWidths : List ℕ) (answer : Sheet) (table′ tapes′ halfWidths′ : List ℕ)
         → SheetRead (withWord file b k w) table tapes halfWidths answer table′ tapes′ halfWidths′
@@ -179,10 +178,33 @@ module _ (file : List ℕ) (b : ℕ) (bytes : EachBelow 256 file) (size : length
 
     pub swap-refused : (tableLength tapesLength halfWidthsLength : ℕ) → refusal (swapped file b k) tableLength tapesLength halfWidthsLength ≡ 10
     swap-refused =
-        gives-ten (swapped file b k) (length-with half b (k + 1) left ∙ length-with file b k right) swapped-unsound
+        let same = length-with half b (k + 1) left ∙ length-with file b k right in
+        gives-ten (swapped file b k) b (rw same size) (rw same there) swapped-unsound
 
     pub swap-seen : (table tapes halfWidths : List ℕ) (answer : Sheet) (table′ tapes′ halfWidths′ : List ℕ)
         → SheetRead (swapped file b k) table tapes halfWidths answer table′ tapes′ halfWidths′
         → Seen table tapes halfWidths answer table′ tapes′ halfWidths′
     swap-seen table tapes halfWidths answer table′ tapes′ halfWidths′ read =
         seen _ table tapes halfWidths answer table′ tapes′ halfWidths′ read (swap-refused (length table) (length tapes) (length halfWidths))
+
+-- ---- files from before word 254 was a check
+
+header-sum : (f : ℕ → ℕ) → total 4 f ≡ f 0 + f 1 + f 2 + f 3
+unfolding total
+header-sum f = omega arith
+
+module _ (file : List ℕ) (old : OldHeader file) (size : lengthWrong (length file) ≡ false) where
+  -- the header weighs something, and word 254 is 0
+  old-unsound : sound (blockAt file 0) ≡ true → ⊥
+  unfolding weightedSum
+  old-unsound check =
+      let weighted = total-start 4 250 (λ k. fileWord file 0 k * (k + 1)) (λ k l m. ap (λ (w : ℕ). w * (k + 1)) (old .others k l (omega arith)) ∙ zero-mul (k + 1)) in
+      let sum : total weightedPlace (λ k. fileWord file 0 k * (k + 1)) ≡ 2 * fileWord file 0 1 + (3 * nodesOf file + 4 * separationOf file) =
+      weighted ∙ header-sum (λ k. fileWord file 0 k * (k + 1)) ∙ omega (arith, old .place)
+      in
+      let small : total weightedPlace (λ k. fileWord file 0 k * (k + 1)) < wordLimit = omega (arith, sum, old) in
+      let zero-word = old .others weightedPlace (omega arith) (omega arith) in
+      omega (arith, sound-weighted (blockAt file 0) check, mod-eq-of-lt small, sum, zero-word, old)
+
+  pub old-refused : (tableLength tapesLength halfWidthsLength : ℕ) → refusal file tableLength tapesLength halfWidthsLength ≡ 10
+  old-refused = gives-ten file 0 size (let long = long-enough (length file) size in omega arith) old-unsound

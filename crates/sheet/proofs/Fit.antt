@@ -3,9 +3,9 @@ use Prim.Native.Nat.{ℕ, zero, suc, _+_, _-_, _*_, _<_}
 use native.Mathlib.Nat.{le-refl}
 use native.Mathlib.Omega.{arith}
 use mathlib.Core.List.{List, [], _∷_, _++_}
-use lib.ListN.{length, getD, replicate}
+use lib.ListN.{length, replicate}
 use Rattle.blocks.specs.Below.{joined}
-use Rattle.blocks.specs.Block.{wordLimit, weightedPlace, bytesOf, weightedSum, closing, padded, weighed, closed, EachBelow}
+use Rattle.blocks.specs.Block.{wordLimit, weightedPlace, bytesOf, listed, weightedSum, closing, padded, weighed, closed, EachBelow}
 use Rattle.sheet.specs.Layout.{blockRows, blocksFor, rowsIn, countWord}
 use Rattle.sheet.specs.File.{row, content, blockOf, fileOf, Contents}
 use Rattle.blocks.proofs.Below.{further}
@@ -76,7 +76,7 @@ module _ (n separation : ℕ) (table tapes halfWidths : List ℕ) (held : Conten
       let zeros : List ℕ = replicate (weightedPlace - length body) 0 in
       let words : List ℕ = padded body in
       append-below wordLimit some (weighed words) (closing (weighed words) ∷ [])
-      (append-below wordLimit some words (weightedSum (λ k. getD words k 0) ∷ [])
+      (append-below wordLimit some words (weightedSum (listed words) ∷ [])
       (append-below wordLimit some body zeros (body-below b l) (zeros-below wordLimit some (weightedPlace - length body)))
       (one-below wordLimit some _ [] (omega arith) (none-below wordLimit some)))
       (one-below wordLimit some _ [] (omega arith) (none-below wordLimit some))

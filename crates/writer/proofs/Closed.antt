@@ -5,7 +5,7 @@ use native.Mathlib.Nat.{lt-of-lt-of-le, le-of-eq}
 use native.Mathlib.Omega.{arith}
 use mathlib.Core.List.{List, [], _∷_, append-assoc}
 use lib.ListN.{length, getD, replicate}
-use Rattle.blocks.specs.Block.{blockBytes, wordLimit, weightedPlace, wordAt, wordSum, weightedSum, closes, closing, padded, weighed, closed}
+use Rattle.blocks.specs.Block.{blockBytes, wordLimit, weightedPlace, wordAt, listed, wordSum, weightedSum, closes, closing, padded, weighed, closed}
 use Rattle.blocks.proofs.Words.{sum-cong, weighted-cong, sum-more, length-padded, length-whole, before-weighted, at-weighted}
 use Rattle.writer.specs.Steps.{storeWords, zeroed, checkWords, closeBlock, blockOver}
 use Rattle.writer.proofs.Stored.{store-more, stored-start, word-stored}
@@ -22,16 +22,16 @@ module _ (words old : List ℕ) (fits : length words ≤ weightedPlace) (room : 
       ap (λ (block : List ℕ). wordAt block k) (stored-start (padded words) old (omega arith))
       ∙ word-stored (padded words) old k (lt-of-lt-of-le l (le-of-eq (sym size)))
 
-  weighted-filled : weightedSum (wordAt (storeWords old 0 (padded words))) ≡ weightedSum (λ k. getD (padded words) k 0)
+  weighted-filled : weightedSum (wordAt (storeWords old 0 (padded words))) ≡ weightedSum (listed (padded words))
   weighted-filled = weighted-cong _ _ word-filled
 
   -- so its check words are theirs
-  check-filled : checkWords (wordAt (storeWords old 0 (padded words))) ≡ weightedSum (λ k. getD (padded words) k 0) ∷ closing (weighed (padded words)) ∷ []
+  check-filled : checkWords (wordAt (storeWords old 0 (padded words))) ≡ weightedSum (listed (padded words)) ∷ closing (weighed (padded words)) ∷ []
   unfolding closing
   check-filled =
       let word : ℕ → ℕ = wordAt (storeWords old 0 (padded words)) in
-      let before = sum-cong weightedPlace word (λ k. getD (weighed (padded words)) k 0) (λ k l. word-filled k l ∙ sym (before-weighted words fits k l)) in
-      let sum = sum-more weightedPlace (λ k. getD (weighed (padded words)) k 0) _ _ ((wordSum weightedPlace word + weightedSum word) % wordLimit) before
+      let before = sum-cong weightedPlace word (listed (weighed (padded words))) (λ k l. word-filled k l ∙ sym (before-weighted words fits k l)) in
+      let sum = sum-more weightedPlace (listed (weighed (padded words))) _ _ ((wordSum weightedPlace word + weightedSum word) % wordLimit) before
       (weighted-filled ∙ sym (at-weighted words fits)) refl
       in
       ap₂ (λ (w c : ℕ). w ∷ c ∷ []) weighted-filled (ap closes sum)
@@ -41,7 +41,7 @@ module _ (words old : List ℕ) (fits : length words ≤ weightedPlace) (room : 
   block-closed =
       let size = length-padded words fits in
       let whole = length-whole words fits in
-      let weighted : ℕ = weightedSum (λ k. getD (padded words) k 0) in
+      let weighted : ℕ = weightedSum (listed (padded words)) in
       ap closeBlock filled
       ∙ ap (storeWords (storeWords old 0 (padded words)) weightedPlace) check-filled
       ∙ store-more old 0 (padded words) (weighted ∷ closing (weighed (padded words)) ∷ []) weightedPlace (omega arith)

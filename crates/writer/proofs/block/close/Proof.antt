@@ -1,18 +1,15 @@
 -- `block::close` stores the weighted sum and the word that closes the sum with it. Assumes nothing.
 use mathlib.Core.Path.{_≡_, refl, ap, ap₂, _∙_}
 use mathlib.Core.List.{[], _∷_}
-use Prim.Native.Nat.{ℕ, _+_, _%_, _<_}
+use Prim.Native.Nat.{ℕ, _+_, _%_}
 use native.Mathlib.Omega.{arith}
 use Rattle.blocks.specs.Block.{wordLimit, weightedPlace, closingPlace, wordAt, wordSum, weightedSum, closes}
+use Rattle.blocks.proofs.Words.{closes-left}
 use Rattle.writer.specs.Steps.{storeWords, closeBlock}
 use Rattle.writer.proofs.Stored.{stored-next}
 use borrow.Author.Needs.{needs}
 use Rattle.writer.proofs.block.close.Statement.{statement}
 use Rattle.writer.proofs.block.close.Tie as tie
-
--- what brings a sum to zero closes it
-closes-left : (r sum : ℕ) → (r + sum) % wordLimit ≡ 0 → (r < wordLimit) × (sum < wordLimit) → r ≡ closes sum
-closes-left r sum e fit = omega arith
 
 sums-of-requires : tie.Need-sums-of-requires
 sums-of-requires c κs = search needs
@@ -41,7 +38,7 @@ returns c =
     let sums = sum .before .sums-of .ensures in
     let block = sum .before .before .before .before .args .block .now in
     let last : closing .wrapping-sub-u16 .result ≡ closes ((wordSum weightedPlace (wordAt block) + weightedSum (wordAt block)) % wordLimit) =
-    closes-left _ _ (closing .wrapping-sub-u16 .ensures) (omega arith)
+    closes-left _ _ (closing .wrapping-sub-u16 .ensures) (omega arith) (omega arith)
     ∙ ap closes (sum .wrapping-add-u16 .ensures ∙ ap₂ (λ (p w : ℕ). (p + w) % wordLimit) (sums .plain) (sums .weighted))
     in
     stored-next block weightedPlace (sum .before .sums-of .result .weighted ∷ []) (closing .wrapping-sub-u16 .result ∷ []) _ _ closingPlace refl
