@@ -59,21 +59,18 @@ unfolding total
 total-add m zero f = rw (add-zero m) (sym (add-zero (total m f)))
 total-add m (suc n) f = rw (add-suc, total) (omega (arith, total-add m n f))
 
--- summands that are 0 from k on
-pub total-start : (k m : ℕ) (f : ℕ → ℕ) → ((j : ℕ) → k ≤ j → j < k + m → f j ≡ 0) → total (k + m) f ≡ total k f
+-- summands that are 0, and those that are from k on
+total-none : (n : ℕ) (f : ℕ → ℕ) → ((j : ℕ) → j < n → f j ≡ 0) → total n f ≡ 0
 unfolding total
-total-start k zero f h = rw (add-zero k)
-total-start k (suc m) f h =
-    rw (add-suc k m, total)
-    (omega (arith, total-start k m f (λ j l d. h j l (omega arith)), h (k + m) (omega arith) (omega arith)))
+total-none zero f h = refl
+total-none (suc n) f h = omega (arith, total-none n f (λ j l. h j (further l)), h n (le-refl (suc n)))
+
+pub total-start : (k m : ℕ) (f : ℕ → ℕ) → ((j : ℕ) → k ≤ j → j < k + m → f j ≡ 0) → total (k + m) f ≡ total k f
+total-start k m f h = omega (arith, total-add k m f, total-none m (λ j. f (k + j)) (λ j l. h (k + j) (omega arith) (omega arith)))
 
 pub total-groups : (c n : ℕ) (f : ℕ → ℕ) → total (c * n) f ≡ total c (λ j. total n (λ i. f (c * i + j)))
 unfolding total
-total-groups c zero f = rw mul-zero (sym (total-none c))
-  where
-    total-none : (m : ℕ) → total m (λ j. 0) ≡ 0
-    total-none zero = refl
-    total-none (suc m) = omega (arith, total-none m)
+total-groups c zero f = rw mul-zero (sym (total-none c (λ j. 0) (λ j l. refl)))
 total-groups c (suc n) f =
     ap (λ (m : ℕ). total m f) (mul-suc c n)
     ∙ total-add (c * n) c f
