@@ -179,7 +179,7 @@ module _ (t : List ℕ) (D : ℕ) (hs : List ℕ) (s : Slices) where
         (λ a b h k. ap₂ (λ (x y : ℕ). D + x + y) (first-widths hs (nodes t) a h) (first-widths hs (nodes t) b k))
 
     -- the extremes are far from the ends of 32 bits
-    few-needed : (a b : ℕ) → a < nodes t → b < nodes t → needed D hs a b ≤ 1536
+    pub few-needed : (a b : ℕ) → a < nodes t → b < nodes t → needed D hs a b ≤ 1536
     few-needed a b h k = omega (arith, needed-at-most hs D (nodes t) a b h k, T .small, T .narrow)
 
     pub least-fits : mag (leastOf (placesOf (needed D hs) t)) < 2 ^ 31

@@ -5,8 +5,9 @@ use mathlib.Core.Logic.{inl, inr, ⊎-elim}
 use mathlib.Core.Bool.{true}
 use mathlib.Core.List.{List, _∷_, _++_}
 use Prim.Native.Nat.{ℕ, _+_, _*_, _≤_, _<_}
+use native.Mathlib.Nat.{le-refl}
 use native.Mathlib.Omega.{arith}
-use lib.IntN.{ℤ, pos, _+ℤ_}
+use lib.IntN.{ℤ, pos, natAbs, _+ℤ_}
 use lib.ListN.{length, getD, drop, length-map, List·getD-append}
 use lib.Seq.{drop-at}
 use lib.Signed.{_≤ℤ_}
@@ -25,11 +26,11 @@ use Rattle.rule.specs.Result.{Slices, Answer, Layout, layoutNumber, place, plac
 use Rattle.rule.proofs.Flat.{length-flat, pairAt, flat-at}
 use Rattle.rule.proofs.PairCounts.{pair-index}
 use Rattle.rule.proofs.Promises.{neighbours-count, neighbours-apart, shapes-equal}
-use Rattle.rule.proofs.Extremes.{least-bounds, greatest-bounds, least-met, greatest-met}
+use Rattle.rule.proofs.Extremes.{least-bounds, greatest-bounds, least-met, greatest-met, small-place}
 use Rattle.rule.proofs.ReadingOrder.{LeftBy, ReadBefore, not-itself, neighbours-read}
 use Rattle.rule.proofs.SideBySide.{SideBySide, beside-told, neighbours-beside, beside-neighbours}
 use Rattle.rule.proofs.Corresponding.{below-corresponding, below-under}
-use Rattle.layout.proofs.Answers.{taken}
+use Rattle.layout.proofs.Answers.{taken, few-needed}
 use Rattle.second_walk.proofs.EntryForEach.{map-upTo, length-upTo}
 
 -- ---- one call
@@ -72,6 +73,11 @@ module _ (t : List ℕ) (D : ℕ) (hs : List ℕ) (s : Slices) (a : Answer) (u :
       ap (λ (l : List ℕ). getD l v 0) (written (levelsOf t) (s .levels) (u .levels) (L .levels))
       ∙ List·getD-append (levelsOf t) (drop (length (levelsOf t)) (s .levels)) 0 v (omega (arith, h, length-map (upTo (nodes t)) (level t), length-upTo (nodes t)))
       ∙ map-upTo (level t) 0 (nodes t) v h
+
+  -- no place is far from the root's, which is 0
+  pub near-returned : (v : ℕ) → v < nodes t → natAbs (placeOf v) ≤ 1571328
+  near-returned v h =
+      subst (λ (z : ℤ). natAbs z ≤ 1571328) (sym (place-returned v h)) (small-place N t accepted 1536 (few-needed t D hs s number-0) (le-refl 1536) v h)
 
   pair-count : a .pairs ≡ length (neighbours t)
   pair-count = field (length (neighbours t)) 0 (a .pairs) (L .pairs)

@@ -22,16 +22,17 @@ pub record Held (z r : ℤ) : Type 0 where
 pub told : {z r : ℤ} → mag z < 2147483648 → z ≡ r → stored z ≡ r
 told {z} h e = toZ-ofZ w32 z (record { sfits = h }) ∙ e
 
+-- `mag`, by which a width's range is said, is at most the size
+pub mag-size : (z : ℤ) → mag z ≤ natAbs z
+mag-size (pos n) = omega arith
+mag-size (negsuc n) = omega arith
+
 -- what is small
 pub held : {z r : ℤ} → z ≡ r → natAbs r < 2147483648 → Held z r
 held {z} {r} e h = record { fits = record { sfits = small }; read = told small e }
   where
-    size : (x : ℤ) → mag x ≤ natAbs x
-    size (pos n) = omega arith
-    size (negsuc n) = omega arith
-
     small : mag z < 2147483648
-    small = omega (arith, size z, ap natAbs e)
+    small = omega (arith, mag-size z, ap natAbs e)
 
 -- a sum and a difference of numbers that were read, u for x and v for y
 module _ {u v x y : ℤ} (p : u ≡ x) (q : v ≡ y) where

@@ -7,8 +7,8 @@ use mathlib.Core.List.{List, [], _∷_, _++_, map, List·Memᴰ·head}
 use Prim.Native.Nat.{ℕ, zero, suc, _+_, _-_, _*_, _≤_, _<_}
 use native.Mathlib.Nat.{not-suc-le-zero, mul-le-mul-left, mul-le-mul-right, le-trans}
 use native.Mathlib.Omega.{arith}
-use lib.IntN.{ℤ, pos, _+ℤ_, _-ℤ_}
-use lib.Signed.{_≤ℤ_, leZ, mag}
+use lib.IntN.{ℤ, pos, natAbs, _+ℤ_, _-ℤ_}
+use lib.Signed.{_≤ℤ_, leZ}
 use Rattle.distance.specs.Needed.{Distance, needed, widest}
 use Rattle.distance.proofs.HalfWidths.{needed-at-most}
 use Rattle.tree.specs.Numbers.{upTo}
@@ -21,7 +21,7 @@ use Rattle.tree.proofs.Stands.{accepted-numbers, accepted-size}
 use Rattle.rule.specs.Drawing.{Drawing, dot, dots}
 use Rattle.rule.specs.Rule.{draw, drawn}
 use Rattle.rule.specs.Result.{place, placesOf, lesser, greater, leastOf, greatestOf}
-use Rattle.rule.proofs.Signed.{one-part, parts-add, parts-sub, parts-eq, parts-le, AtMost, leZ-true, leZ-false, mag-parts}
+use Rattle.rule.proofs.Signed.{one-part, parts-add, parts-sub, parts-eq, parts-le, AtMost, leZ-true, leZ-false, natAbs-parts}
 use Rattle.tree.proofs.Joined.{Some, some}
 use Rattle.rule.proofs.OnLevel.{OnLevel, top}
 use Rattle.rule.proofs.Lookup.{dot-place}
@@ -168,7 +168,7 @@ module _ (D : Distance) (t : List ℕ) (accepted : tableNumber t ≡ 0) where
         span-is (suc n) = let less : n ≡ suc n - 1 = omega arith in ap (λ (k : ℕ). k * W) less
 
     -- and every place, and every difference of two places, is at most 1,023 * 1,536 in size
-    pub small-difference : W ≤ 1536 → (v w : ℕ) → v < nodes t → w < nodes t → mag (place D t v -ℤ place D t w) ≤ 1571328
+    pub small-difference : W ≤ 1536 → (v w : ℕ) → v < nodes t → w < nodes t → natAbs (place D t v -ℤ place D t w) ≤ 1571328
     small-difference hW v w hv hw =
         let wide = bound (nodes t) (accepted-numbers t accepted .few) in
         let difference = parts-sub (place D t v) (place D t w) in
@@ -176,16 +176,16 @@ module _ (D : Distance) (t : List ℕ) (accepted : tableNumber t ≡ 0) where
         let left = places-near w v hw hv in
         let past-right = parts-add (place D t w) (pos (span W (nodes t))) in
         let past-left = parts-add (place D t v) (pos (span W (nodes t))) in
-        let fits = mag-parts (place D t v -ℤ place D t w) 1571328 in
-        ⊎-elim (λ z. fits (omega arith) (omega arith)) (λ z. fits (omega arith) (omega arith)) (one-part (place D t v -ℤ place D t w))
+        let parts = natAbs-parts (place D t v -ℤ place D t w) in
+        ⊎-elim (λ z. omega arith) (λ z. omega arith) (one-part (place D t v -ℤ place D t w))
       where
         bound : (n : ℕ) → n ≤ 1024 → span W n ≤ 1571328
         bound zero h = omega arith
         bound (suc n) h = let small : n ≤ 1023 = omega arith in le-trans (mul-le-mul-right W small) (mul-le-mul-left 1023 hW)
 
-    pub small-place : W ≤ 1536 → (v : ℕ) → v < nodes t → mag (place D t v) ≤ 1571328
+    pub small-place : W ≤ 1536 → (v : ℕ) → v < nodes t → natAbs (place D t v) ≤ 1571328
     small-place hW v h =
-        subst (λ (z : ℤ). mag z ≤ 1571328) (ap (λ (x : ℤ). place D t v -ℤ x) root-place ∙ less-zero (place D t v)) (small-difference hW v 0 h few)
+        subst (λ (z : ℤ). natAbs z ≤ 1571328) (ap (λ (x : ℤ). place D t v -ℤ x) root-place ∙ less-zero (place D t v)) (small-difference hW v 0 h few)
       where
         less-zero : (z : ℤ) → z -ℤ pos 0 ≡ z
         less-zero z = parts-eq (z -ℤ pos 0) z (omega (arith, parts-sub z (pos 0)))

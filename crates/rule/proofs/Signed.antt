@@ -8,7 +8,7 @@ use Prim.Native.Nat.{ℕ, zero, suc, _+_, _-_, _≤_, _<_}
 use native.Mathlib.Omega.{arith}
 use lib.Dec.{T, ltb, leb→le, le→leb}
 use lib.IntN.{ℤ, pos, negsuc, natAbs, subℕ, _+ℤ_, _-ℤ_, negℤ}
-use lib.Signed.{_≤ℤ_, _<ℤ_, leZ, ltZ, ltZ-yes, ltZ-no, mag}
+use lib.Signed.{_≤ℤ_, _<ℤ_, leZ, ltZ, ltZ-yes, ltZ-no}
 use borrow.Author.Tests.{ltb-true, ltb-false, leb-true, leb-false}
 use Rattle.rule.specs.Join.{above0}
 
@@ -122,10 +122,3 @@ leZ-false (pos a) (pos b) e = omega (arith, leb-false a b e)
 leZ-false (pos a) (negsuc b) e = omega arith
 leZ-false (negsuc a) (pos b) e = absurd (subst T e tt)
 leZ-false (negsuc a) (negsuc b) e = omega (arith, leb-false b a e)
-
--- ---- size
-
--- a number whose parts are both at most k is at most k in size
-pub mag-parts : (z : ℤ) (k : ℕ) → above0 z ≤ k → below0 z ≤ k → mag z ≤ k
-mag-parts (pos n) k h g = h
-mag-parts (negsuc n) k h g = omega arith

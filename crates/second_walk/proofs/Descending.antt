@@ -13,10 +13,12 @@ use Rattle.tree.specs.Table.{nodes}
 use Rattle.tree.specs.WellFormed.{tableNumber}
 use Rattle.tree.proofs.LevelOf.{root-level}
 use Rattle.tree.proofs.Stands.{accepted-numbers}
+use Rattle.rule.specs.Result.{place}
 use Rattle.rule.proofs.Extremes.{root-place, small-place}
 use Rattle.level_order.specs.Fields.{get, put, NODE, PARENT, PLACE, LEVEL}
 use Rattle.level_order.proofs.Cells.{put-length, put-same, put-field, put-position, put-rest}
 use Rattle.level_order.proofs.Order.{node-below, root-first}
+use Rattle.level_order.proofs.Signed32.{mag-size}
 use Rattle.second_walk.specs.SecondWalk.{FromParent, Ready, Descends, descended, Seen}
 use Rattle.second_walk.proofs.Positions.{numberAt, placeAt, levelAt}
 
@@ -126,7 +128,11 @@ module _ {D : Distance} {t : List ℕ} {before work : List ℤ} {p : ℕ} (S : D
           before = from .before;
           named = from .named;
           place-fits = subst (λ (z : ℤ). mag z < 2 ^ 31) (sym place-here)
-              (omega (arith, small-place D t (S .accepted) 1536 (λ a b h k. S .small a b) (le-refl 1536) (numberAt t p) (node-below t (S .accepted) p h)));
+              (omega (
+                arith,
+                mag-size (place D t (numberAt t p)),
+                small-place D t (S .accepted) 1536 (λ a b h k. S .small a b) (le-refl 1536) (numberAt t p) (node-below t (S .accepted) p h),
+              ));
           level-fits = subst (λ (z : ℤ). mag z < 2 ^ 31) (sym level-here) (omega (arith, near-here));
         }
 

@@ -16,6 +16,7 @@ use Rattle.rule.specs.Result.{place, placesOf, lesser, greater, leastOf, greate
 use Rattle.rule.proofs.Signed.{AtMost, at-most, parts-eq, leZ-true, leZ-false}
 use Rattle.rule.proofs.Extremes.{root-place, least-bounds, greatest-bounds, least-met, greatest-met, small-place}
 use Rattle.level_order.proofs.Order.{node-below, root-first}
+use Rattle.level_order.proofs.Signed32.{mag-size}
 use Rattle.second_walk.proofs.Positions.{placeAt, numberAt, each-number}
 
 abbrev pub AtLeast : ℤ → ℤ → Type 0
@@ -78,7 +79,7 @@ module _ {D : Distance} {t : List ℕ} (accepted : tableNumber t ≡ 0) {p : ℕ
 -- the extremes are small
 module _ (D : Distance) (t : List ℕ) (accepted : tableNumber t ≡ 0) (small : (a b : ℕ) → a < nodes t → b < nodes t → D a b ≤ 1536) where
   met-small : {z : ℤ} → Place D t z → mag z < 2 ^ 31
-  met-small m = subst (λ (x : ℤ). mag x < 2 ^ 31) (m .2) (omega (arith, small-place D t accepted 1536 small (le-refl 1536) (m .0) (m .1)))
+  met-small m = subst (λ (x : ℤ). mag x < 2 ^ 31) (m .2) (omega (arith, mag-size (place D t (m .0)), small-place D t accepted 1536 small (le-refl 1536) (m .0) (m .1)))
 
   pub least-small : mag (leastOf (placesOf D t)) < 2 ^ 31
   least-small = met-small (least-met D t accepted)
