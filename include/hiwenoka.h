@@ -1,5 +1,5 @@
 /*
- * Copy sheets: tree tables, their layout, sheet files, and Newick text.
+ * Copy sheets: tree tables, their layout, sheet files, Newick text, and what a screen shows.
  *
  * A slice is a pointer and its count of entries. The pointer is aligned and not null even where
  * the count is 0, and no slice or result overlaps another.
@@ -34,6 +34,8 @@
  *   15  the text is no Newick text of a tree
  *   16  the tree of the text has more than 1024 nodes
  *   17  the slice of half-widths is too short, or a half-width is above 256
+ *   18  the zoom is none of 1/8, 1/4, 1/2, 1, 2, 4 and 8
+ *   19  a centre is no whole number or is above 2097152 in size, or the place is
  *
  * A function tries its conditions in the order in which it names them.
  */
@@ -140,6 +142,22 @@ uint16_t hiwenoka_write_sheet(const uint16_t *table, size_t table_len, uint16_t 
  * Where out has fewer than HIWENOKA_TEXT_ROOM bytes, writes nothing and returns 0.
  */
 size_t hiwenoka_list_sheet(const uint8_t *file, size_t file_len, uint8_t *out, size_t out_len);
+
+/*
+ * Where a view of the studio screen shows a node: 0, or 18, 19. The view has its middle at across
+ * and down, in units of the sheet: the root stands at 0 across and 0 down, each level 64 units under
+ * the one above. zoom says how many times as large a unit is drawn. level is the node's level and
+ * place its place, as hiwenoka_layout gives them; no place that it gives is refused. The distances
+ * from the middle are (place - across) * zoom and (64 * level - down) * zoom, without any rounding
+ * error: eight times either is a whole number. Where they are at most 960 across and 540 down,
+ * either way and edges included, writes 1 to on and the distances to x and y. Otherwise, and after
+ * a refusal, writes 0, 0.0 and 0.0. Every double is taken: a NaN and the infinities are no whole
+ * numbers and no zooms, and -0.0 is the whole number 0. Floats are computed with as by default:
+ * rounded to nearest, and subnormal ones kept.
+ */
+uint16_t hiwenoka_on_screen(double across, double down, double zoom,
+                            uint16_t level, int32_t place,
+                            uint8_t *on, double *x, double *y);
 
 #ifdef __cplusplus
 }

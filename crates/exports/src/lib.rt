@@ -6,6 +6,7 @@ ghost use Rattle.newick.specs.Read.{NewickRead};
 ghost use Rattle.rule.specs.Result.{Layout};
 ghost use Rattle.layout.specs.Operation.{slices, answer};
 ghost use Rattle.writer.specs.Write.{SheetWritten};
+ghost use Rattle.screen.specs.Screen.{OnScreenValues};
 ghost use Rattle.render.specs.Text.{SheetListed};
 
 #[no_mangle]
@@ -111,4 +112,27 @@ pub extern "C" fn hiwenoka_list_sheet(file: &[u8], out: &mut [u8]) -> usize
     ensures { λ r. ⌜ SheetListed (now (file .entry)) (now (out .entry)) r (now (out .exit)) ⌝ }
 {
     render::list_sheet(file, out)
+}
+
+#[no_mangle]
+pub extern "C" fn hiwenoka_on_screen(
+    across: f64,
+    down: f64,
+    zoom: f64,
+    level: u16,
+    place: i32,
+    on: &mut u8,
+    x: &mut f64,
+    y: &mut f64,
+) -> u16
+    ensures { λ r. ⌜ OnScreenValues (record { across = across; down = down; zoom = zoom }) level place (record { number = r; on = now (on .exit); across = now (x .exit); down = now (y .exit) }) ⌝ }
+{
+    let view = screen::View { across, down, zoom };
+    let judged = screen::on_screen(view, level, place);
+    let seen = judged.seen;
+    let values = screen::values_of(judged.number, seen);
+    *on = values.on;
+    *x = values.across;
+    *y = values.down;
+    values.number
 }
