@@ -1,5 +1,5 @@
-/* What the paper says of a table, a drawing, a sheet file and a Newick text, computed plainly and
-   from the paper alone. */
+/* What the paper says of a table, a drawing, a sheet file, a Newick text and a view, computed
+   plainly and from the paper alone. */
 
 #ifndef PAPER_H
 #define PAPER_H
@@ -51,5 +51,14 @@ int32_t needed(int32_t separation, const uint16_t *half_widths, uint16_t left, u
 /* Where each node of a well-formed table stands: steps 1 to 6. */
 void draw(const uint16_t *table, size_t nodes, int32_t separation, const uint16_t *half_widths,
           struct drawing *drawing);
+
+struct judged {
+    unsigned number; /* the first of 18 and 19 that holds, or 0 */
+    uint8_t on;
+    uint64_t x, y; /* floats by their bits */
+};
+
+/* Where a view shows a node. The view is across, down and zoom, floats by their bits. */
+void judge_node(const uint64_t *view, uint16_t level, int32_t place, struct judged *judged);
 
 #endif

@@ -2,7 +2,8 @@
  * Takes an input as one call of the library, makes the call on slices of exactly their lengths
  * beside pages that cannot be accessed, and holds all that came of it against the paper. An input:
  *
- *     byte 0         the operation, modulo 8; 8 more for PLAIN
+ *     byte 0         the operation, modulo 8; 8 more for PLAIN; 16 more for a view, whatever the
+ *                    operation
  *     byte 1         what is done to the rest, see the bits below
  *     bytes 2, 3     the separation, low byte first, as are all words
  *     bytes 4 to 8   for each slice besides the table, file or text, how many entries more than
@@ -11,9 +12,11 @@
  *     bytes 10 to 13 where a damage goes, and its word
  *     the rest       a table's words, or the bytes of a file or a Newick text; or, with TREE, one
  *                    byte for each node after the root, whose low half says how far it hangs above
- *                    the node before it
+ *                    the node before it; or a view's three floats, the level and the place
  *
- * The high half of the rest's byte r says how great the half-width of node r is.
+ * The high half of the rest's byte r says how great the half-width of node r is. With TREE, the
+ * lowest word of each of a view's centres says how far the node is from the middle, signed, and the
+ * lowest byte of the zoom, modulo 8, which power of 2 eight times the zoom is.
  */
 
 #include "hiwenoka.h"
@@ -24,9 +27,11 @@
 #include <string.h>
 
 enum {
-    TREE = 1,         /* the rest is a well-formed tree, and a file or a text is of that tree */
+    TREE = 1,         /* the rest is a well-formed tree, and a file or a text is of that tree; or a
+                         view with its middle near the node */
     TURNED = 2,       /* the tree's nodes but the root are numbered from the last */
-    DAMAGED = 4,      /* an entry, a word of the file, or a byte of the text is replaced */
+    DAMAGED = 4,      /* an entry, a word of the file or of a float, or a byte of the text is
+                         replaced */
     CLOSED = 8,       /* then both sums of every block are made right */
     AFTER_GUARD = 16, /* the slices start after a guarded page, and do not end at one */
     CUT = 32,         /* before any damage, a part of the tree is cut off as a stray */
@@ -448,6 +453,50 @@ static void read_newick(const struct input *input, const uint8_t *bytes, size_t 
     expect_word(&nodes, n);
 }
 
+/* A view's floats, by their bits, and a node. */
+struct sight {
+    uint64_t view[3];
+    uint16_t level;
+    int32_t place;
+};
+
+static void sight_of(const struct input *input, struct sight *sight)
+{
+    uint8_t bytes[30] = {0};
+    memcpy(bytes, input->rest, at_most(input->rest_len, sizeof bytes));
+    memcpy(sight->view, bytes, 24);
+    memcpy(&sight->level, bytes + 24, 2);
+    memcpy(&sight->place, bytes + 26, 4);
+    if (input->bits & TREE) {
+        int16_t across, down;
+        memcpy(&across, bytes, 2);
+        memcpy(&down, bytes + 8, 2);
+        double view[3] = {(double)sight->place - across, 64.0 * sight->level - down,
+                          (1 << bytes[16] % 8) / 8.0};
+        memcpy(sight->view, view, 24);
+    }
+    if (input->bits & DAMAGED) {
+        memcpy((uint8_t *)sight->view + 2 * (input->index % 12), &input->word, 2);
+    }
+}
+
+static void on_screen(const struct input *input)
+{
+    struct sight sight;
+    struct judged judged;
+    double view[3];
+    sight_of(input, &sight);
+    judge_node(sight.view, sight.level, sight.place, &judged);
+    memcpy(view, sight.view, 24);
+    struct lent on = lend_output(1), x = lend_output(8), y = lend_output(8);
+    unsigned number = hiwenoka_on_screen(view[0], view[1], view[2], sight.level, sight.place,
+                                         on.start, x.start, y.start);
+    expect(number == judged.number, "the number is that of the paper");
+    expect_bytes(&on, &judged.on, 1);
+    expect_bytes(&x, &judged.x, 8);
+    expect_bytes(&y, &judged.y, 8);
+}
+
 int LLVMFuzzerInitialize(int *count, char ***words)
 {
     (void)count;
@@ -511,6 +560,10 @@ int LLVMFuzzerTestOneInput(const uint8_t *data, size_t size)
        alone. */
     seed_random(input.separation + 65536 * (uint64_t)size);
     take_back(input.bits & AFTER_GUARD ? AT_START : AT_END);
-    call(data[0] % 8, &input);
+    if (data[0] / 16 % 2 == 1) {
+        on_screen(&input);
+    } else {
+        call(data[0] % 8, &input);
+    }
     return 0;
 }

@@ -1,13 +1,14 @@
 #!/usr/bin/env bash
 # Counts instructions by callgrind: a node for the table operations, for the layout and for the
 # published pointer method (its baseline, which does not check the table), a byte for reading and
-# for writing a sheet file (a write checks the table too) and for reading a Newick text. Only the
-# calls themselves count. The part `time` takes the time of a layout beside the pointer method's
-# and, where Debian's node-d3-hierarchy is installed, that of d3's tree. The part `listing` does both
-# for the whole way from a sheet's bytes to its listing; it needs the program `listing` too, from
-# ../target/bin or the folder that HIWENOKA_BIN_DIR names.
+# for writing a sheet file (a write checks the table too) and for reading a Newick text, a call for
+# judging a node on the screen. Only the calls themselves count. The part `time` takes the time of a
+# layout beside the pointer method's and, where Debian's node-d3-hierarchy is installed, that of d3's
+# tree. The part `listing` does both for the whole way from a sheet's bytes to its listing; it needs
+# the program `listing` too, from ../target/bin or the folder that HIWENOKA_BIN_DIR names.
 #
-# Usage: bench.sh [table] [sheet] [newick] [layout] [time] [listing]; all six if none is named.
+# Usage: bench.sh [table] [sheet] [newick] [screen] [layout] [time] [listing]; all seven if none is
+# named.
 set -euo pipefail
 cd "$(dirname "$0")"
 
@@ -126,7 +127,7 @@ build() {
 }
 
 if [ $# -eq 0 ]; then
-    set -- table sheet newick layout time listing
+    set -- table sheet newick screen layout time listing
 fi
 for part in "$@"; do
     case "$part" in
@@ -153,6 +154,12 @@ for part in "$@"; do
         measure bench_newick hiwenoka_read_newick short | report "Short labels, read"
         measure bench_newick hiwenoka_read_newick broken | report "Refused for the last byte, 15"
         measure bench_newick hiwenoka_read_newick crowded | report "Refused for more than 1,024 nodes, 16"
+        ;;
+    screen)
+        build bench_screen
+        echo "A node judged on the studio screen: instructions a call, by eight times the zoom"
+        measure bench_screen hiwenoka_on_screen zooms | report "On screen, off, and refused for a centre or the place, 19"
+        measure bench_screen hiwenoka_on_screen others | report "Refused for another zoom, 18"
         ;;
     layout)
         build bench_layout

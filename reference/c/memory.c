@@ -14,34 +14,41 @@
 #include "lent.h"
 #include "random.h"
 #include "stack.h"
+#include <math.h>
 #include <stdio.h>
 #include <stdlib.h>
 #include <string.h>
 
 _Static_assert(HIWENOKA_INTERFACE == 2, "the interface with half-widths");
 
-enum operation { CHECK, LAYOUT, MIRROR, RENUMBER, READ, WRITE, LIST, NEWICK, OPERATIONS };
+enum operation { CHECK, LAYOUT, MIRROR, RENUMBER, READ, WRITE, LIST, NEWICK, SCREEN, OPERATIONS };
 
 static const char *const names[OPERATIONS]
-    = {"check_table", "layout",      "mirror",     "renumber",
-       "read_sheet",  "write_sheet", "list_sheet", "read_newick"};
+    = {"check_table", "layout",     "mirror",      "renumber", "read_sheet",
+       "write_sheet", "list_sheet", "read_newick", "on_screen"};
 
 /* The numbers that each operation can give, as bits. */
 static const unsigned possible[OPERATIONS]
-    = {0x403f, 0x241ff, 0x40bf, 0x40bf, 0x1e81, 0x260ff, 0x25ebd, 0x18081};
+    = {0x403f, 0x241ff, 0x40bf, 0x40bf, 0x1e81, 0x260ff, 0x25ebd, 0x18081, 0xc0001};
 
 /* The number that a call must give is not known. */
-enum { ANY = 18 };
+enum { ANY = 20 };
 
 static unsigned long given[OPERATIONS][ANY];
 static enum placing placing;
 
-/* Holds a call's number against the one it must give, and its table or file against what it was. */
-static void expect_number(enum operation operation, const struct lent *input, unsigned number,
-                          unsigned wanted)
+/* Holds a call's number against the one it must give. */
+static void count_number(enum operation operation, unsigned number, unsigned wanted)
 {
     expect(number < ANY && (number == wanted || wanted == ANY), names[operation]);
     given[operation][number]++;
+}
+
+/* The same, and its table or file against what it was. */
+static void expect_number(enum operation operation, const struct lent *input, unsigned number,
+                          unsigned wanted)
+{
+    count_number(operation, number, wanted);
     expect_written(input, 0);
 }
 
@@ -235,6 +242,31 @@ static void read_newick(const uint8_t *bytes, size_t len, size_t table_len, size
     size_t n = *(uint16_t *)nodes.start;
     expect_written(&table, 4 * n);
     expect_written(&tapes, 4 * n);
+}
+
+struct view {
+    double across, down, zoom;
+};
+
+/* Where a view shows a node. */
+struct seen {
+    uint8_t on;
+    double x, y;
+};
+
+static const struct seen off = {0, 0, 0};
+
+static void on_screen(struct view view, uint16_t level, int32_t place, unsigned wanted,
+                      struct seen seen)
+{
+    take_back(placing);
+    struct lent on = lend_output(1), x = lend_output(8), y = lend_output(8);
+    uint16_t number = hiwenoka_on_screen(view.across, view.down, view.zoom, level, place, on.start,
+                                         x.start, y.start);
+    count_number(SCREEN, number, wanted);
+    expect_bytes(&on, &seen.on, 1);
+    expect_bytes(&x, &seen.x, 8);
+    expect_bytes(&y, &seen.y, 8);
 }
 
 /* Often a small one. */
@@ -443,6 +475,33 @@ static void texts(const uint16_t *table, size_t nodes)
     }
 }
 
+/* A whole number of up to this size. */
+static int32_t some_number(int32_t most)
+{
+    return (int32_t)below(2 * (size_t)most + 1) - most;
+}
+
+/* A node on screen, off across and off down, and a place and views that are refused. */
+static void views(void)
+{
+    static const double zooms[] = {0.125, 0.25, 0.5, 1, 2, 4, 8};
+    static const double others[] = {0, -0.0, -1, 3, 16, 0.0625, NAN, INFINITY};
+    static const double not_whole[] = {0.5, -2097152.5, 5e-324, NAN, -INFINITY};
+    double zoom = zooms[below(7)];
+    int32_t place = some_number(1000000), far = 2097153 + (int32_t)below(1000000);
+    int32_t across = some_number((int32_t)(960 / zoom)), down = some_number((int32_t)(540 / zoom));
+    uint16_t level = (uint16_t)below(30000);
+    struct view view = {place - across, 64 * level - down, zoom}, other = view, wrong = view;
+    on_screen(view, level, place, 0, (struct seen){1, across * zoom, down * zoom});
+    on_screen(view, level, place + (across < 0 ? -16000 : 16000), 0, off);
+    on_screen(view, (uint16_t)(level + 200), place, 0, off);
+    on_screen(view, level, below(2) == 0 ? far : -far, 19, off);
+    other.zoom = others[below(8)];
+    on_screen(other, level, below(2) == 0 ? place : far, 18, off);
+    *(below(2) == 0 ? &wrong.across : &wrong.down) = below(2) == 0 ? far : not_whole[below(5)];
+    on_screen(wrong, level, place, 19, off);
+}
+
 /* Small trees often, and those at the edges of a block and of the whole range. */
 static size_t some_size(void)
 {
@@ -470,6 +529,7 @@ static void one_round(uint64_t seed)
     damaged_tables(table, nodes);
     sheets(table, nodes);
     texts(table, nodes);
+    views();
 }
 
 /* Every number that an operation can give must have been given, and no other. */

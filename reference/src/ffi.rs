@@ -4,6 +4,8 @@
 //! functions of the archive that it uses. A slice of no entries still has an aligned pointer that
 //! is not null, as Rust gives it.
 
+use crate::screen::View;
+
 mod raw {
     extern "C" {
         pub fn hiwenoka_check_table(table: *const u16, table_len: usize, nodes: *mut u16) -> u16;
@@ -79,6 +81,16 @@ mod raw {
             tapes: *mut u16,
             tapes_len: usize,
             nodes: *mut u16,
+        ) -> u16;
+        pub fn hiwenoka_on_screen(
+            across: f64,
+            down: f64,
+            zoom: f64,
+            level: u16,
+            place: i32,
+            on: *mut u8,
+            x: *mut f64,
+            y: *mut f64,
         ) -> u16;
     }
 }
@@ -236,4 +248,11 @@ pub fn read_newick(text: &[u8], table: &mut [u16], tapes: &mut [u16], nodes: &mu
             nodes,
         )
     }
+}
+
+#[inline]
+pub fn on_screen(view: View, level: u16, place: i32, on: &mut u8, x: &mut f64, y: &mut f64) -> u16 {
+    let View { across, down, zoom } = view;
+    // SAFETY: the pointers come from references, valid for the call.
+    unsafe { raw::hiwenoka_on_screen(across, down, zoom, level, place, on, x, y) }
 }

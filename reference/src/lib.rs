@@ -18,6 +18,7 @@ pub mod program;
 pub mod random;
 pub mod run;
 pub mod samples;
+pub mod screen;
 pub mod shapes;
 pub mod sheet;
 pub mod table;

@@ -20,6 +20,17 @@ sheet 6 3 4 -5 12
 5 2 12 70000
 ";
 
+/// What the example of a view prints. The nodes stand at 0, -512, -1,280, 256 and 512 across and at
+/// 0, 64, 128, 128 and 64 down. Less the middle, -7,424 and 61, and divided by 8 that is 928, 864,
+/// 768, 960 and 992 across, of which the last is off, and -7.625, 0.375 and twice 8.375 down.
+const SHOWN: &str = "\
+0 928.000 -7.625
+1 864.000 0.375
+2 768.000 8.375
+3 960.000 8.375
+refused 18
+";
+
 fn root() -> PathBuf {
     Path::new(env!("CARGO_MANIFEST_DIR")).join("..")
 }
@@ -100,6 +111,8 @@ fn the_programs_in_c_build_and_print() {
     let printed = printed_by(&mut built("examples/write.c", "gcc "));
     assert_eq!(printed, WRITTEN);
     lists_texts(built("examples/newick.c", "gcc "));
+    let printed = printed_by(&mut built("examples/screen.c", "gcc "));
+    assert_eq!(printed, SHOWN);
 }
 
 #[test]
@@ -110,6 +123,8 @@ fn the_programs_in_rust_build_and_print() {
     let printed = printed_by(&mut built("examples/write.rs", "rustc "));
     assert_eq!(printed, WRITTEN);
     lists_texts(built("examples/newick.rs", "rustc "));
+    let printed = printed_by(&mut built("examples/screen.rs", "rustc "));
+    assert_eq!(printed, SHOWN);
 }
 
 #[test]
