@@ -35,7 +35,7 @@
  *   16  the tree of the text has more than 1024 nodes
  *   17  the slice of half-widths is too short, or a half-width is above 256
  *   18  the zoom is none of 1/8, 1/4, 1/2, 1, 2, 4 and 8
- *   19  a centre is no whole number or is above 2097152 in size, or the place is
+ *   19  a centre is no whole number, or a centre or the place is above 2097152 in size
  *
  * A function tries its conditions in the order in which it names them.
  */
