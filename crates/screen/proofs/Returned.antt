@@ -51,7 +51,7 @@ pub record Inside (x y : ℤ) : Type 0 where
 pub told : (view : View) (level : ℕ) (place : ℤ) (r : Judged) → OnScreen view level place r → OnScreenValues view level place (valuesOf (r .number) (r .seen))
 told view level place r S = record { values = ap₂ valuesOf (S .number) (S .seen) }
 
-module _ (view : View) (level : ℕ) (place : ℤ) (fits : level < 2 ^ 16) (v : Values) (S : OnScreenValues view level place v) where
+module _ (view : View) (level : ℕ) (place : ℤ) (v : Values) (S : OnScreenValues view level place v) where
   number-kept : (k : ℕ) (s : Seen) → valuesOf k s .number ≡ k
   number-kept k (On x y) = refl
   number-kept k Off = refl
@@ -64,7 +64,7 @@ module _ (view : View) (level : ℕ) (place : ℤ) (fits : level < 2 ^ 16) (v : 
   refused-returned not-0 =
       S .values ∙ ap₂ valuesOf (sym number-returned) (granted-refused (screenNumber view place) (seenAt view level place) Off (λ e. not-0 (number-returned ∙ e)))
 
-  module _ (accepted-call : v .number ≡ 0) where
+  module _ (fits : level < 2 ^ 16) (accepted-call : v .number ≡ 0) where
     none : screenNumber view place ≡ 0
     none = sym number-returned ∙ accepted-call
 

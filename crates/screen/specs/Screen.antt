@@ -49,12 +49,12 @@ abbrev pub eightDown : View → ℕ → ℤ
 eightDown view level = eightfold (unitsDown level) (view .down) (view .zoom)
 
 -- at most 960 across and 540 down, either way from the middle
-unfoldable pub onScreen : View → ℕ → ℤ → Bool
-onScreen view level place = leb (natAbs (eightAcross view place)) (8 * 960) && leb (natAbs (eightDown view level)) (8 * 540)
+unfoldable pub insideEdges : View → ℕ → ℤ → Bool
+insideEdges view level place = leb (natAbs (eightAcross view place)) (8 * 960) && leb (natAbs (eightDown view level)) (8 * 540)
 
 unfoldable pub seenAt : View → ℕ → ℤ → Seen
-unfolding onScreen
-seenAt view level place = cond (onScreen view level place) (On (nearest (eightAcross view place) 8) (nearest (eightDown view level) 8)) Off
+unfolding insideEdges
+seenAt view level place = cond (insideEdges view level place) (On (nearest (eightAcross view place) 8) (nearest (eightDown view level) 8)) Off
 
 -- a refusal carries off
 abbrev pub answer : View → ℕ → ℤ → Seen

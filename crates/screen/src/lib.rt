@@ -22,7 +22,7 @@ pub struct Judged {
     pub seen: Seen,
 }
 
-// The same in plain fields: on is 1 or 0, and a node that is off has no distances.
+// The same in plain fields: on is 1 or 0, and a node that is off has the distances 0.
 pub struct Values {
     pub number: u16,
     pub on: u8,
@@ -56,7 +56,7 @@ fn within(x: f64, most: f64) -> bool
     (-most <= x) & (x <= most)
 }
 
-// Whether x is a whole number of at most 2,097,152 in size: then both sums are exact, and a fraction is lost in the first.
+// Whether x is a whole number of at most 2,097,152 in size: the sum keeps such a number and loses any fraction.
 fn is_centre(x: f64) -> bool
     ensures { λ r. ⌜ r ≡ screen.isCentre x ⌝ }
 {

@@ -1,6 +1,6 @@
 -- `screen::in_range` meets its contract. Assumes nothing.
 use mathlib.Core.Path.{_≡_, refl, sym, _∙_}
-use mathlib.Core.Bool.{_&&_}
+use mathlib.Core.Bool.{_&&_, and-true}
 use Prim.Native.Nat.{ℕ, suc}
 use lib.Dec.{leb, leb·suc-suc}
 use lib.IntN.{ℤ, pos, negsuc, natAbs}
@@ -9,7 +9,6 @@ use mir.Syntax.{w32}
 use mir.ValLaws.{toZ-ofZ}
 use borrow.Author.Needs.{needs}
 use Rattle.screen.specs.Screen.{inRange}
-use Rattle.screen.proofs.Compared.{and-true}
 use Rattle.screen.proofs.in_range.Statement.{statement}
 use Rattle.screen.proofs.in_range.Tie as tie
 
