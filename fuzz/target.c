@@ -3,7 +3,7 @@
  * beside pages that cannot be accessed, and holds all that came of it against the paper. An input:
  *
  *     byte 0         the operation, modulo 8; 8 more for PLAIN; 16 more for a view, whatever the
- *                    operation
+ *                    operation; 32 more for a small tree, whatever the others
  *     byte 1         what is done to the rest, see the bits below
  *     bytes 2, 3     the separation, low byte first, as are all words
  *     bytes 4 to 8   for each slice besides the table, file or text, how many entries more than
@@ -12,23 +12,26 @@
  *     bytes 10 to 13 where a damage goes, and its word
  *     the rest       a table's words, or the bytes of a file or a Newick text; or, with TREE, one
  *                    byte for each node after the root, whose low half says how far it hangs above
- *                    the node before it; or a view's three floats, the level and the place
+ *                    the node before it; or a view's three floats, the level and the place; or a
+ *                    small tree's count of nodes and its place, in words
  *
  * The high half of the rest's byte r says how great the half-width of node r is. With TREE, the
  * lowest word of each of a view's centres says how far the node is from the middle, signed, and the
- * lowest byte of the zoom, modulo 8, which power of 2 eight times the zoom is.
+ * lowest byte of the zoom, modulo 8, which power of 2 eight times the zoom is; and a small tree's
+ * count is taken modulo 10 and its place modulo 430.
  */
 
 #include "hiwenoka.h"
 #include "../reference/c/lent.h"
 #include "../reference/c/random.h"
+#include "../reference/c/small_trees.h"
 #include "paper.h"
 #include <stdio.h>
 #include <string.h>
 
 enum {
     TREE = 1,         /* the rest is a well-formed tree, and a file or a text is of that tree; or a
-                         view with its middle near the node */
+                         view with its middle near the node; or a small tree, or nearly one */
     TURNED = 2,       /* the tree's nodes but the root are numbered from the last */
     DAMAGED = 4,      /* an entry, a word of the file or of a float, or a byte of the text is
                          replaced */
@@ -497,6 +500,31 @@ static void on_screen(const struct input *input)
     expect_bytes(&y, &judged.y, 8);
 }
 
+static void small_tree(const struct input *input)
+{
+    uint8_t bytes[4] = {0};
+    memcpy(bytes, input->rest, at_most(input->rest_len, sizeof bytes));
+    uint16_t nodes = get_word(bytes, 0, 0), place = get_word(bytes, 0, 1);
+    if (input->bits & TREE) {
+        nodes %= MOST_SMALL + 2;
+        place %= MOST_LISTED + 1;
+    }
+    /* For a count that has no list anyway the slice need not be longer than for any table. */
+    size_t table_len = length(input, 0, 2 * at_most(nodes, MOST_NODES));
+    struct lent table = lend_output(2 * table_len);
+    unsigned number = hiwenoka_small_tree(nodes, place, table.start, table_len);
+    unsigned wanted = nodes < 1 || nodes > MOST_SMALL ? 20
+                      : place >= list_length(nodes)   ? 21
+                      : table_len < 2 * (size_t)nodes ? 7
+                                                      : 0;
+    expect(number == wanted, "the number is that of the paper");
+    if (number == 0) {
+        expect_words(&table, listed_tree(nodes, place), 2 * (size_t)nodes);
+    } else {
+        expect_written(&table, 0);
+    }
+}
+
 int LLVMFuzzerInitialize(int *count, char ***words)
 {
     (void)count;
@@ -560,7 +588,9 @@ int LLVMFuzzerTestOneInput(const uint8_t *data, size_t size)
        alone. */
     seed_random(input.separation + 65536 * (uint64_t)size);
     take_back(input.bits & AFTER_GUARD ? AT_START : AT_END);
-    if (data[0] / 16 % 2 == 1) {
+    if (data[0] / 32 % 2 == 1) {
+        small_tree(&input);
+    } else if (data[0] / 16 % 2 == 1) {
         on_screen(&input);
     } else {
         call(data[0] % 8, &input);

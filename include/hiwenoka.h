@@ -1,5 +1,6 @@
 /*
- * Copy sheets: tree tables, their layout, sheet files, Newick text, and what a screen shows.
+ * Copy sheets: tree tables, their layout, sheet files, Newick text, all small trees, and what a
+ * screen shows.
  *
  * A slice is a pointer and its count of entries. The pointer is aligned and not null even where
  * the count is 0, and no slice or result overlaps another.
@@ -36,6 +37,8 @@
  *   17  the slice of half-widths is too short, or a half-width is above 256
  *   18  the zoom is none of 1/8, 1/4, 1/2, 1, 2, 4 and 8
  *   19  a centre is no whole number, or a centre or the place is above 2097152 in size
+ *   20  the count of nodes is not in 1 to 8
+ *   21  the list of the trees of so many nodes has no such place
  *
  * A function tries its conditions in the order in which it names them.
  */
@@ -158,6 +161,17 @@ size_t hiwenoka_list_sheet(const uint8_t *file, size_t file_len, uint8_t *out, s
 uint16_t hiwenoka_on_screen(double across, double down, double zoom,
                             uint16_t level, int32_t place,
                             uint8_t *on, double *x, double *y);
+
+/*
+ * Writes one of all the ordered trees of 1 to 8 nodes: 0, or 20, 21, and then 7 if table has fewer
+ * than 2 * nodes entries. The list of the trees of so many nodes has 1, 1, 2, 5, 14, 42, 132 or 429
+ * of them, every tree once, at places counted from 0. A tree is written as the levels of its nodes,
+ * each parent first, then the subtrees of its children left to right; of two trees the one with the
+ * smaller level where they first differ comes first. So the star is first and the chain is last.
+ * Writes the table of the tree at a place, its nodes numbered in the same order, to the first
+ * 2 * nodes entries of table.
+ */
+uint16_t hiwenoka_small_tree(uint16_t nodes, uint16_t place, uint16_t *table, size_t table_len);
 
 #ifdef __cplusplus
 }

@@ -2,13 +2,14 @@
 # Counts instructions by callgrind: a node for the table operations, for the layout and for the
 # published pointer method (its baseline, which does not check the table), a byte for reading and
 # for writing a sheet file (a write checks the table too) and for reading a Newick text, a call for
-# judging a node on the screen. Only the calls themselves count. The part `time` takes the time of a
-# layout beside the pointer method's and, where Debian's node-d3-hierarchy is installed, that of d3's
-# tree. The part `listing` does both for the whole way from a sheet's bytes to its listing; it needs
-# the program `listing` too, from ../target/bin or the folder that HIWENOKA_BIN_DIR names.
+# judging a node on the screen and for writing a small tree. Only the calls themselves count. The part
+# `time` takes the time of a layout beside the pointer method's and, where Debian's node-d3-hierarchy
+# is installed, that of d3's tree. The part `listing` does both for the whole way from a sheet's bytes
+# to its listing; it needs the program `listing` too, from ../target/bin or the folder that
+# HIWENOKA_BIN_DIR names.
 #
-# Usage: bench.sh [table] [sheet] [newick] [screen] [layout] [time] [listing]; all seven if none is
-# named.
+# Usage: bench.sh [table] [sheet] [newick] [screen] [small_trees] [layout] [time] [listing]; all eight
+# if none is named.
 set -euo pipefail
 cd "$(dirname "$0")"
 
@@ -122,12 +123,34 @@ report() {
         }'
 }
 
+# of_each_list: of the calls for all trees of a list, by place, the mean, the least and the greatest,
+# and the first and the last alone.
+of_each_list() {
+    awk '
+        {
+            calls[$3]++
+            sum[$3] += $5
+            if (calls[$3] == 1) first[$3] = least[$3] = greatest[$3] = $5
+            if ($5 < least[$3]) least[$3] = $5
+            if ($5 > greatest[$3]) greatest[$3] = $5
+            last[$3] = $5
+            if ($3 > most) most = $3
+        }
+        END {
+            for (n = 1; n <= most; n++) print "all mean", n, calls[n], sum[n]
+            for (n = 1; n <= most; n++) print "all least", n, 1, least[n]
+            for (n = 1; n <= most; n++) print "all greatest", n, 1, greatest[n]
+            for (n = 1; n <= most; n++) print "first star", n, 1, first[n]
+            for (n = 1; n <= most; n++) print "last chain", n, 1, last[n]
+        }'
+}
+
 build() {
     cargo build --quiet --offline --release --features bench --bin "$1"
 }
 
 if [ $# -eq 0 ]; then
-    set -- table sheet newick screen layout time listing
+    set -- table sheet newick screen small_trees layout time listing
 fi
 for part in "$@"; do
     case "$part" in
@@ -160,6 +183,13 @@ for part in "$@"; do
         echo "A node judged on the studio screen: instructions a call, by eight times the zoom"
         measure bench_screen hiwenoka_on_screen zooms | report "On screen, off, and refused for a centre or the place, 19"
         measure bench_screen hiwenoka_on_screen others | report "Refused for another zoom, 18"
+        ;;
+    small_trees)
+        build bench_small_trees
+        echo "Small trees: instructions a call, by count of nodes"
+        measure bench_small_trees hiwenoka_small_tree trees | of_each_list | report "Written"
+        measure bench_small_trees hiwenoka_small_tree places | report "Refused for the place, 21, and for the length of the table, 7"
+        measure bench_small_trees hiwenoka_small_tree counts | report "Refused for the count of nodes, 20"
         ;;
     layout)
         build bench_layout

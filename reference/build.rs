@@ -25,6 +25,7 @@ fn main() {
     println!("cargo:rustc-link-arg-bin=bench_sheet={archive}");
     println!("cargo:rustc-link-arg-bin=bench_newick={archive}");
     println!("cargo:rustc-link-arg-bin=bench_screen={archive}");
+    println!("cargo:rustc-link-arg-bin=bench_small_trees={archive}");
     println!("cargo:rustc-link-arg-bin=bench_layout={archive}");
     println!("cargo:rustc-link-arg-bin=time_layout={archive}");
     println!("cargo:rustc-link-arg-bin=bench_listing={archive}");

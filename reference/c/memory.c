@@ -13,6 +13,7 @@
 #include "levels.h"
 #include "lent.h"
 #include "random.h"
+#include "small_trees.h"
 #include "stack.h"
 #include <math.h>
 #include <stdio.h>
@@ -21,18 +22,30 @@
 
 _Static_assert(HIWENOKA_INTERFACE == 2, "the interface with half-widths");
 
-enum operation { CHECK, LAYOUT, MIRROR, RENUMBER, READ, WRITE, LIST, NEWICK, SCREEN, OPERATIONS };
+enum operation {
+    CHECK,
+    LAYOUT,
+    MIRROR,
+    RENUMBER,
+    READ,
+    WRITE,
+    LIST,
+    NEWICK,
+    SCREEN,
+    SMALL,
+    OPERATIONS
+};
 
 static const char *const names[OPERATIONS]
-    = {"check_table", "layout",     "mirror",      "renumber", "read_sheet",
-       "write_sheet", "list_sheet", "read_newick", "on_screen"};
+    = {"check_table", "layout",     "mirror",      "renumber",  "read_sheet",
+       "write_sheet", "list_sheet", "read_newick", "on_screen", "small_tree"};
 
 /* The numbers that each operation can give, as bits. */
 static const unsigned possible[OPERATIONS]
-    = {0x403f, 0x241ff, 0x40bf, 0x40bf, 0x1e81, 0x260ff, 0x25ebd, 0x18081, 0xc0001};
+    = {0x403f, 0x241ff, 0x40bf, 0x40bf, 0x1e81, 0x260ff, 0x25ebd, 0x18081, 0xc0001, 0x300081};
 
 /* The number that a call must give is not known. */
-enum { ANY = 20 };
+enum { ANY = 22 };
 
 static unsigned long given[OPERATIONS][ANY];
 static enum placing placing;
@@ -269,6 +282,19 @@ static void on_screen(struct view view, uint16_t level, int32_t place, unsigned 
     expect_bytes(&y, &seen.y, 8);
 }
 
+static void small_tree(size_t nodes, size_t place, size_t len, unsigned wanted)
+{
+    take_back(placing);
+    struct lent table = lend_output(2 * len);
+    uint16_t number = hiwenoka_small_tree((uint16_t)nodes, (uint16_t)place, table.start, len);
+    count_number(SMALL, number, wanted);
+    if (number == 0) {
+        expect_words(&table, listed_tree(nodes, place), 2 * nodes);
+    } else {
+        expect_written(&table, 0);
+    }
+}
+
 /* Often a small one. */
 static uint16_t some_separation(void)
 {
@@ -502,6 +528,21 @@ static void views(void)
     on_screen(wrong, level, place, 19, off);
 }
 
+/* A tree of a list, the place after its last or one farther on, and a count that has no list. */
+static void small_trees(void)
+{
+    size_t nodes = 1 + below(MOST_SMALL), len = 2 * nodes, length = list_length(nodes);
+    size_t past = below(2) == 0 ? length : length + below(65536 - length);
+    size_t other = below(4) == 0 ? 0 : MOST_SMALL + 1 + below(below(2) == 0 ? 4 : 65527);
+    size_t place = below(length), lengths[] = {0, 1, len - 1, len, len + 1 + below(9)};
+    small_tree(nodes, place, len, 0);
+    small_tree(nodes, place, len - 1, 7);
+    small_tree(nodes, place, below(len), 7);
+    small_tree(nodes, place, lengths[4], 0);
+    small_tree(nodes, past, lengths[below(5)], 21);
+    small_tree(other, below(2) == 0 ? place : past, lengths[below(5)], 20);
+}
+
 /* Small trees often, and those at the edges of a block and of the whole range. */
 static size_t some_size(void)
 {
@@ -530,6 +571,7 @@ static void one_round(uint64_t seed)
     sheets(table, nodes);
     texts(table, nodes);
     views();
+    small_trees();
 }
 
 /* Every number that an operation can give must have been given, and no other. */

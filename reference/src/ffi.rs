@@ -92,6 +92,12 @@ mod raw {
             x: *mut f64,
             y: *mut f64,
         ) -> u16;
+        pub fn hiwenoka_small_tree(
+            nodes: u16,
+            place: u16,
+            table: *mut u16,
+            table_len: usize,
+        ) -> u16;
     }
 }
 
@@ -255,4 +261,10 @@ pub fn on_screen(view: View, level: u16, place: i32, on: &mut u8, x: &mut f64, y
     let View { across, down, zoom } = view;
     // SAFETY: the pointers come from references, valid for the call.
     unsafe { raw::hiwenoka_on_screen(across, down, zoom, level, place, on, x, y) }
+}
+
+#[inline]
+pub fn small_tree(nodes: u16, place: u16, table: &mut [u16]) -> u16 {
+    // SAFETY: as in `check_table`.
+    unsafe { raw::hiwenoka_small_tree(nodes, place, table.as_mut_ptr(), table.len()) }
 }

@@ -21,5 +21,6 @@ pub mod samples;
 pub mod screen;
 pub mod shapes;
 pub mod sheet;
+pub mod small_trees;
 pub mod table;
 pub mod texts;

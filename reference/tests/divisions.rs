@@ -4,7 +4,8 @@
 //! the count of blocks; and a block's sums, weighted though one of them is, have none.
 //!
 //! A node on the screen is judged without a division too, by two multiplications of floats, and
-//! nothing is called for it and nothing put on the stack.
+//! nothing is called for it and nothing put on the stack. A small tree is written without a call or
+//! a division.
 
 use reference::run::say;
 use std::collections::BTreeMap;
@@ -196,6 +197,19 @@ fn a_node_on_the_screen_is_judged_without_a_call_a_division_or_the_stack() {
     assert_eq!([leave, divide, multiply, stack], [0, 0, 2, 0]);
     let products = code.iter().filter(|one| one.name == "mulsd").count();
     assert_eq!(products, 2, "one product for each distance");
+    assert!(code.iter().any(|one| one.name == "ret"), "it comes back");
+}
+
+#[test]
+fn a_small_tree_is_written_without_a_call_or_a_division() {
+    let code = &functions()["hiwenoka_small_tree"];
+    let [leave, divide, multiply, _] = marks(code);
+    say(format_args!(
+        "divisions: hiwenoka_small_tree: {} instructions, {leave} leave it, {divide} divide, \
+        {multiply} multiply",
+        code.len()
+    ));
+    assert_eq!([leave, divide], [0, 0]);
     assert!(code.iter().any(|one| one.name == "ret"), "it comes back");
 }
 

@@ -2,6 +2,8 @@
 //! two that list a sheet as they are. The header is read by a C and a C++ compiler alone.
 
 use reference::run::say;
+use reference::small_trees;
+use reference::table::NONE;
 use std::fs::File;
 use std::path::{Path, PathBuf};
 use std::process::{Command, Stdio};
@@ -29,6 +31,26 @@ const SHOWN: &str = "\
 2 768.000 8.375
 3 960.000 8.375
 refused 18
+";
+
+/// What the example of the small trees prints: the table of each family of five. Their levels are
+/// 01111, 01112, 01121, 01122, 01123, 01211, 01212, 01221, 01222, 01223, 01231, 01232, 01233 and
+/// 01234.
+const FAMILIES: &str = "\
+0: 1 - - 2 - 3 - 4 - -
+1: 1 - - 2 - 3 4 - - -
+2: 1 - - 2 3 4 - - - -
+3: 1 - - 2 3 - - 4 - -
+4: 1 - - 2 3 - 4 - - -
+5: 1 - 2 3 - - - 4 - -
+6: 1 - 2 3 - - 4 - - -
+7: 1 - 2 4 - 3 - - - -
+8: 1 - 2 - - 3 - 4 - -
+9: 1 - 2 - - 3 4 - - -
+10: 1 - 2 4 3 - - - - -
+11: 1 - 2 - 3 4 - - - -
+12: 1 - 2 - 3 - - 4 - -
+13: 1 - 2 - 3 - 4 - - -
 ";
 
 fn root() -> PathBuf {
@@ -113,6 +135,8 @@ fn the_programs_in_c_build_and_print() {
     lists_texts(built("examples/newick.c", "gcc "));
     let printed = printed_by(&mut built("examples/screen.c", "gcc "));
     assert_eq!(printed, SHOWN);
+    let printed = printed_by(&mut built("examples/small_trees.c", "gcc "));
+    assert_eq!(printed, FAMILIES);
 }
 
 #[test]
@@ -125,6 +149,22 @@ fn the_programs_in_rust_build_and_print() {
     lists_texts(built("examples/newick.rs", "rustc "));
     let printed = printed_by(&mut built("examples/screen.rs", "rustc "));
     assert_eq!(printed, SHOWN);
+    let printed = printed_by(&mut built("examples/small_trees.rs", "rustc "));
+    assert_eq!(printed, FAMILIES);
+}
+
+#[test]
+fn the_families_are_those_of_the_model() {
+    let mut lines = String::new();
+    for (place, tree) in small_trees::list(5).iter().enumerate() {
+        let entry = |&entry: &u16| match entry {
+            NONE => "-".to_string(),
+            node => node.to_string(),
+        };
+        let entries: Vec<String> = tree.table.iter().map(entry).collect();
+        lines += &format!("{place}: {}\n", entries.join(" "));
+    }
+    assert_eq!(FAMILIES, lines);
 }
 
 #[test]

@@ -8,6 +8,7 @@ ghost use Rattle.layout.specs.Operation.{slices, answer};
 ghost use Rattle.writer.specs.Write.{SheetWritten};
 ghost use Rattle.screen.specs.Screen.{OnScreenValues};
 ghost use Rattle.render.specs.Text.{SheetListed};
+ghost use Rattle.small_trees.specs.SmallTrees.{SmallTree};
 
 #[no_mangle]
 pub extern "C" fn hiwenoka_check_table(table: &[u16], nodes: &mut u16) -> u16
@@ -135,4 +136,11 @@ pub extern "C" fn hiwenoka_on_screen(
     *x = values.across;
     *y = values.down;
     values.number
+}
+
+#[no_mangle]
+pub extern "C" fn hiwenoka_small_tree(nodes: u16, place: u16, table: &mut [u16]) -> u16
+    ensures { λ r. ⌜ SmallTree nodes place (now (table .entry)) r (now (table .exit)) ⌝ }
+{
+    small_trees::small_tree(nodes, place, table)
 }

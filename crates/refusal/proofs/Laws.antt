@@ -15,6 +15,13 @@ abbrev pub NoneHolds : List Condition → Type 0
 NoneHolds [] = Unit {0}
 NoneHolds (c ∷ cs) = (c .holds ≡ false) × NoneHolds cs
 
+-- a condition decides where it holds, and else those after it
+pub first-here : (c : Condition) (cs : List Condition) → c .holds ≡ true → first (c ∷ cs) ≡ c .number
+first-here c cs e = ap (λ (b : Bool). cond b (c .number) (first cs)) e
+
+pub first-after : (c : Condition) (cs : List Condition) → c .holds ≡ false → first (c ∷ cs) ≡ first cs
+first-after c cs e = ap (λ (b : Bool). cond b (c .number) (first cs)) e
+
 -- where a condition of the first list holds, the second list is not looked at
 pub first-refused : (cs ds : List Condition) → (first cs ≡ 0 → ⊥) → first (cs ++ ds) ≡ first cs
 first-refused [] ds h = absurd (h refl)
@@ -28,7 +35,7 @@ first-refused (c ∷ cs) ds h = go (c .holds) h (first-refused cs ds)
 -- where no condition of the first list holds, the second list decides
 pub first-passed : (cs ds : List Condition) → NoneHolds cs → first (cs ++ ds) ≡ first ds
 first-passed [] ds h = refl
-first-passed (c ∷ cs) ds h = ap (λ (b : Bool). cond b (c .number) (first (cs ++ ds))) (h .0) ∙ first-passed cs ds (h .1)
+first-passed (c ∷ cs) ds h = first-after c (cs ++ ds) (h .0) ∙ first-passed cs ds (h .1)
 
 -- where the number is none of the first list's, no condition of that list holds, and the second list decides
 pub first-past : (cs ds : List Condition) (k : ℕ) → Lacks k cs → first (cs ++ ds) ≡ k → NoneHolds cs × (first ds ≡ k)
@@ -55,7 +62,7 @@ first-holds c cs some l e = go (c .holds) refl e
 -- the number is 0 exactly where no condition holds
 pub none-first : (cs : List Condition) → NoneHolds cs → first cs ≡ 0
 none-first [] h = refl
-none-first (c ∷ cs) h = ap (λ (b : Bool). cond b (c .number) (first cs)) (h .0) ∙ none-first cs (h .1)
+none-first (c ∷ cs) h = first-after c cs (h .0) ∙ none-first cs (h .1)
 
 pub first-none : (cs : List Condition) → Lacks 0 cs → first cs ≡ 0 → NoneHolds cs
 first-none cs l e = first-lacks cs 0 l e .0

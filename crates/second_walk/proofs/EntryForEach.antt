@@ -5,8 +5,8 @@ use Prim.Native.Nat.{ℕ, zero, suc, _+_, _<_}
 use native.Mathlib.Omega.{arith}
 use lib.ListN.{length, getD, length-append, length-map}
 use lib.Seq.{ext-getD}
-use Rattle.tree.specs.Numbers.{upTo}
-use Rattle.tree.proofs.Renumbered.{run, run-upTo}
+use Rattle.tree.specs.Numbers.{upTo, run}
+use Rattle.tree.proofs.Renumbered.{run-upTo}
 
 pub length-upTo : (n : ℕ) → length (upTo n) ≡ n
 length-upTo zero = refl

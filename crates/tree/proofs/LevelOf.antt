@@ -76,19 +76,19 @@ module _ (x : ℕ) where
 
 -- ---- of the roots, of a node below the first root, of a node beside it
 
-level-root : (x : ℕ) (f : Forest) → member x (roots f) ≡ true → levelIn (levels f) x ≡ 0
+pub level-root : (x : ℕ) (f : Forest) → member x (roots f) ≡ true → levelIn (levels f) x ≡ 0
 level-root x nil e = refl
 level-root x (node v f g) e =
     ap (λ (ls : List (List ℕ)). levelIn ls x) (levels-down v f g) ∙ level-here x (roots (node v f g)) (levels (oneDown (node v f g))) e
 
 module _ (v : ℕ) (f g : Forest) (x : ℕ) (once : count x (preorder (node v f g)) ≤ 1) where
-  level-child : 1 ≤ count x (preorder f) → levelIn (levels (node v f g)) x ≡ suc (levelIn (levels f) x)
+  pub level-child : 1 ≤ count x (preorder f) → levelIn (levels (node v f g)) x ≡ suc (levelIn (levels f) x)
   level-child h =
       level-left x ((v ∷ []) ∷ levels f) (levels g) (omega (arith, count-levels x f))
       (omega (arith, count-append x (preorder f) (preorder g), count-levels x g))
       ∙ level-below x (v ∷ []) (levels f) (none-member x (v ∷ []) (omega (arith, count-append x (preorder f) (preorder g))))
 
-  level-sibling : 1 ≤ count x (preorder g) → levelIn (levels (node v f g)) x ≡ levelIn (levels g) x
+  pub level-sibling : 1 ≤ count x (preorder g) → levelIn (levels (node v f g)) x ≡ levelIn (levels g) x
   level-sibling h =
       level-right x ((v ∷ []) ∷ levels f) (levels g) (omega (arith, count-append x (preorder f) (preorder g), count-levels x f))
       (omega (arith, count-levels x g))

@@ -9,7 +9,7 @@ use native.Mathlib.Numerals.{add-one}
 use native.Mathlib.Omega.{arith}
 use lib.ListN.{length}
 use borrow.Author.Tests.{eqb-false}
-use Rattle.tree.specs.Numbers.{count, upTo}
+use Rattle.tree.specs.Numbers.{count, upTo, run}
 use Rattle.tree.specs.Table.{none, nodes}
 use Rattle.tree.specs.Forest.{Forest, nil, node, treeOf, size, preorder, entry, siblings}
 use Rattle.tree.specs.Levels.{Pair}
@@ -22,10 +22,6 @@ use Rattle.tree.proofs.Stands.{Numbers, numbers-size, accepted-numbers}
 use Rattle.tree.proofs.TableOf.{tableOf-accepted, tableOf-tree}
 
 -- ---- m numbers from k on
-
-abbrev pub run : ℕ → ℕ → List ℕ
-run k zero = []
-run k (suc m) = k ∷ run (k + 1) m
 
 pub run-append : (k a b : ℕ) → run k (a + b) ≡ run k a ++ run (k + a) b
 run-append k zero b = ap₂ run (sym (add-zero k)) (zero-add b)

@@ -9,6 +9,11 @@ abbrev pub upTo : ℕ → List ℕ
 upTo zero = []
 upTo (suc n) = upTo n ++ (n ∷ [])
 
+-- m numbers from k on
+abbrev pub run : ℕ → ℕ → List ℕ
+run k zero = []
+run k (suc m) = k ∷ run (k + 1) m
+
 -- 1 where the two numbers are equal, else 0
 abbrev pub is : ℕ → ℕ → ℕ
 is x y = cond (eqb x y) 1 0
