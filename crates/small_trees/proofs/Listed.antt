@@ -134,7 +134,8 @@ same-list (s ∷ ss) (t ∷ ts) a b into back =
 abbrev pub branches : ℕ → ℕ → ℕ → List (List ℕ)
 branches m a c = flatMap (λ next. map (λ rest. next ∷ rest) (further m next)) (run a c)
 
-record Branch (m a c : ℕ) (s : List ℕ) : Type 0 where
+-- a way that begins with one of these levels
+record Way (m a c : ℕ) (s : List ℕ) : Type 0 where
   pub next : ℕ
   pub rest : List ℕ
   pub least : a ≤ next
@@ -142,7 +143,7 @@ record Branch (m a c : ℕ) (s : List ℕ) : Type 0 where
   pub goes : List·Memᴰ rest (further m next)
   pub is : s ≡ next ∷ rest
 
-mem-branches : (m a c : ℕ) (s : List ℕ) → List·Memᴰ s (branches m a c) → Branch m a c s
+mem-branches : (m a c : ℕ) (s : List ℕ) → List·Memᴰ s (branches m a c) → Way m a c s
 mem-branches m a zero s h = absurd (List·Memᴰ·not-nil h)
 mem-branches m a (suc c) s h =
     ⊎-elim (λ i. let o = Memᴰ·of-map (λ rest. a ∷ rest) (further m a) i in

@@ -5,7 +5,8 @@ ghost use lib.ListN.{length};
 ghost use Rattle.small_trees.specs.SmallTrees.{further, sequenceAt};
 ghost use Rattle.small_trees.specs.Steps.{Ways, Choice, Chosen, InList};
 
-const LEVELS: usize = 8;
+// How many counts a row of WAYS has.
+const ROW: usize = 8;
 
 // How many ways there are to go on for m levels behind level l, at 8m + l, where m + l is at most 7:
 //
@@ -97,7 +98,7 @@ pub fn ways(counts: &[u16], more: usize, behind: usize) -> u16
     requires { ⌜ more + behind < 8 ⌝ }
     ensures { λ r. ⌜ r ≡ length (further more behind) ⌝ }
 {
-    counts[LEVELS * more + behind]
+    counts[ROW * more + behind]
 }
 
 // The next level behind a level, with `more` levels after it, at a place among the ways to go on: the greatest takes what is left.

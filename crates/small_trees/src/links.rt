@@ -12,6 +12,7 @@ ghost use Rattle.small_trees.specs.Steps.{Linkable};
 
 const NONE: u16 = 65535;
 
+// Levels 0 to 7, and the one below them, on which no node comes next.
 const LEVELS: usize = 9;
 
 // Stores the links of a node, and puts it before the nodes that come after it.
