@@ -7,10 +7,10 @@ use lib.IntN.{ℤ, pos}
 use lib.ListN.{length}
 use Rattle.distance.specs.Needed.{halfWidth}
 use Rattle.tree.specs.Table.{nodes}
-use Rattle.tree.specs.Forest.{Forest, nil, node, size, roots, entry, children, siblings, treeOf}
+use Rattle.tree.specs.Forest.{Forest, node, size, roots, children, treeOf}
 use Rattle.tree.specs.Levels.{childrenOf}
 use Rattle.tree.specs.WellFormed.{tableNumber}
-use Rattle.tree.proofs.Stands.{accepted-numbers, accepted-size}
+use Rattle.tree.proofs.Stands.{one-root, accepted-numbers, accepted-size}
 use Rattle.tree.proofs.Walked.{Leads, accepted-leads}
 use Rattle.level_order.specs.LevelOrder.{waiting, nodeAt, firstAt}
 use Rattle.level_order.specs.Fields.{get, NODE}
@@ -48,11 +48,7 @@ module _ (t : List ℕ) (separation : ℕ) (hs : List ℕ) (accepted : tableNumb
     pub table-start : Numbering tree needs (nodes t) start start 0 1
     table-start =
         let A = accepted-numbers t accepted in
-        number-start tree needs (nodes t) before start queue room (A .some) (A .root) (one tree (A .root) (A .alone))
-      where
-        one : (f : Forest) → entry f ≡ 0 → siblings f ≡ nil → rootCount f ≡ 1
-        one nil e s = absurd (omega (arith, e))
-        one (node v f g) e s = omega (arith, ap rootCount s)
+        number-start tree needs (nodes t) before start queue room (A .some) (A .root) (ap rootCount (one-root (nodes t) tree A .1))
 
     -- past the last position
     pub table-end : {work : List ℤ} {p tail : ℕ} → Numbering tree needs (nodes t) start work p tail → nodes t ≤ p → NumberedFrom t separation hs before work

@@ -1,6 +1,6 @@
 -- The extremes of a table's drawing: the least and the greatest place bound every place, the root stands at 0 between them, and they lie at
 -- most n - 1 times apart what two nodes need, so that every place and every difference of two places is small. Assumes nothing.
-use mathlib.Core.Path.{_≡_, refl, sym, ap, _∙_, subst, subst₂}
+use mathlib.Core.Path.{_≡_, refl, sym, ap, _∙_, subst, subst⁻¹, subst₂}
 use mathlib.Core.Logic.{⊎-elim}
 use mathlib.Core.Bool.{Bool, true, false, cond}
 use mathlib.Core.List.{List, [], _∷_, _++_, map, List·Memᴰ·head}
@@ -13,11 +13,11 @@ use Rattle.distance.specs.Needed.{Distance, needed, widest}
 use Rattle.distance.proofs.HalfWidths.{needed-at-most}
 use Rattle.tree.specs.Numbers.{upTo}
 use Rattle.tree.specs.Table.{nodes}
-use Rattle.tree.specs.Forest.{Forest, nil, node, treeOf, size, entry, siblings}
+use Rattle.tree.specs.Forest.{Forest, treeOf, size}
 use Rattle.tree.specs.WellFormed.{tableNumber}
 use Rattle.tree.proofs.Counting.{All, all-map, all-weaken}
 use Rattle.tree.proofs.Tests.{all-upTo, upTo-all}
-use Rattle.tree.proofs.Stands.{accepted-numbers, accepted-size}
+use Rattle.tree.proofs.Stands.{one-root, accepted-numbers, accepted-size}
 use Rattle.rule.specs.Drawing.{Drawing, dot, dots}
 use Rattle.rule.specs.Rule.{draw, drawn}
 use Rattle.rule.specs.Result.{place, placesOf, lesser, greater, leastOf, greatestOf}
@@ -104,12 +104,10 @@ module _ (D : Distance) (t : List ℕ) (accepted : tableNumber t ≡ 0) where
   -- the root stands at 0
   pub root-place : place D t 0 ≡ pos 0
   unfolding drawn
-  root-place = dot-place D t accepted (dot 0 0 (pos 0)) 0 (at-root (treeOf t) (accepted-numbers t accepted .root) (accepted-numbers t accepted .alone))
-    where
-      at-root : (f : Forest) → entry f ≡ 0 → siblings f ≡ nil → OnLevel (dot 0 0 (pos 0)) 0 (dots 0 (pos 0) (draw D f))
-      at-root nil e s = absurd (omega arith)
-      at-root (node v f nil) e s = top (List·Memᴰ·head (ap (λ (w : ℕ). dot 0 w (pos 0)) (sym e)))
-      at-root (node v f (node w g h)) e s = absurd (omega (arith, ap size s))
+  root-place =
+      dot-place D t accepted (dot 0 0 (pos 0)) 0
+      (subst⁻¹ (λ (f : Forest). OnLevel (dot 0 0 (pos 0)) 0 (dots 0 (pos 0) (draw D f))) (one-root (nodes t) (treeOf t) (accepted-numbers t accepted) .1)
+      (top (List·Memᴰ·head refl)))
 
   pub least-bounds : (v : ℕ) → v < nodes t → leastOf (placesOf D t) ≤ℤ place D t v
   unfolding placesOf

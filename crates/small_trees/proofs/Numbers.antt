@@ -72,6 +72,6 @@ module _ (n place tableLength : ℕ) where
   pub accepted : refusal n place tableLength ≡ 0 → (1 ≤ n) × (n ≤ mostNodes) × (place < treeCount n) × (2 * n ≤ tableLength)
   unfolding refusal
   accepted e =
-      let none = first-none all ((λ z. absurd (omega arith)), ((λ z. absurd (omega arith)), ((λ z. absurd (omega arith)), tt))) e in
+      let none = first-none all (omega arith) e in
       let s = size-right (none .0) in
       (s .0, s .1, leb-false (treeCount n) place (none .1 .0), ltb-false tableLength (2 * n) (none .1 .1 .0))

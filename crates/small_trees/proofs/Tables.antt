@@ -1,22 +1,21 @@
 -- Tables: an accepted table's levels in Renumber's order are its tree's sequence, and its renumbered table stands at one place of the
 -- list. Assumes nothing.
-use mathlib.Core.Path.{_≡_, refl, sym, ap, ap₂, _∙_, subst}
+use mathlib.Core.Path.{_≡_, refl, sym, ap, ap₂, _∙_, subst⁻¹}
 use mathlib.Core.Logic.{⊎-elim}
 use mathlib.Core.List.{List, [], _∷_, _++_, map, map-append, map-map}
 use Prim.Native.Nat.{ℕ, suc, _≤_, _<_}
 use native.Mathlib.Nat.{eq-zero-or-pos}
 use native.Mathlib.Omega.{arith}
-use borrow.Author.Tests.{eqb-false}
 use Rattle.tree.specs.Numbers.{count}
-use Rattle.tree.specs.Table.{none, nodes}
-use Rattle.tree.specs.Forest.{Forest, nil, node, treeOf, size, preorder, entry, siblings, roots, tableOf}
+use Rattle.tree.specs.Table.{nodes}
+use Rattle.tree.specs.Forest.{Forest, nil, node, treeOf, size, preorder, roots, tableOf}
 use Rattle.tree.specs.Levels.{levels, levelIn, level}
 use Rattle.tree.specs.Shape.{sameShape}
 use Rattle.tree.specs.WellFormed.{tableNumber}
 use Rattle.tree.specs.Operations.{numberFrom, renumbered, oldNumbers}
 use Rattle.tree.proofs.Counting.{is-same, count-append}
 use Rattle.tree.proofs.Tests.{count-member, counted-all}
-use Rattle.tree.proofs.Stands.{Numbers, numbers-size, accepted-numbers}
+use Rattle.tree.proofs.Stands.{Numbers, numbers-size, one-root, accepted-numbers}
 use Rattle.tree.proofs.TableOf.{tableOf-tree}
 use Rattle.tree.proofs.LevelOf.{level-root, level-child, level-sibling}
 use Rattle.tree.proofs.Renumbered.{shape-numberFrom}
@@ -72,14 +71,10 @@ module _ (t : List ℕ) (e : tableNumber t ≡ 0) where
   pub tree-of-table : treeOfLevels (levelSequence t) ≡ numberFrom 0 (treeOf t)
   tree-of-table = ap treeOfLevels sequence-table ∙ tree-of-sequence (treeOf t)
 
-  one-root : (f : Forest) → entry f ≡ 0 → siblings f ≡ nil → (v : ℕ) × (below : Forest) × (f ≡ node v below nil)
-  one-root nil root alone = absurd (eqb-false none 0 refl root)
-  one-root (node v below after) root alone = (v, below, ap (node v below) alone)
-
   pub table-place : OnePlace (nodes t) (treeOf t)
   table-place =
-      let r = one-root (treeOf t) (N .root) (N .alone) in
-      subst (OnePlace (nodes t)) (sym (r .2)) (tree-place (nodes t) (r .0) (r .1) (ap size (sym (r .2)) ∙ numbers-size (nodes t) (treeOf t) N))
+      let r = one-root (nodes t) (treeOf t) N in
+      subst⁻¹ (OnePlace (nodes t)) (r .1) (tree-place (nodes t) 0 (r .0) (ap size (sym (r .1)) ∙ numbers-size (nodes t) (treeOf t) N))
 
   pub one-table : nodes t ≤ mostNodes → OneTable t
   unfolding renumbered

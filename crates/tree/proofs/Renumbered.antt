@@ -1,6 +1,6 @@
 -- The renumbered table: it is accepted, stands for the tree numbered in preorder, and has the shape of the table that it comes from; each
 -- new number corresponds to the old number that the map gives. Assumes nothing.
-use mathlib.Core.Path.{_≡_, refl, sym, ap, ap₂, _∙_, subst}
+use mathlib.Core.Path.{_≡_, refl, sym, ap, ap₂, _∙_, subst, subst⁻¹}
 use mathlib.Core.Bool.{true, _&&_}
 use mathlib.Core.List.{List, [], _∷_, _++_}
 use Prim.Native.Nat.{ℕ, zero, suc, _+_, _≤_}
@@ -8,17 +8,16 @@ use native.Mathlib.Nat.{zero-add, add-zero, suc-add}
 use native.Mathlib.Numerals.{add-one}
 use native.Mathlib.Omega.{arith}
 use lib.ListN.{length}
-use borrow.Author.Tests.{eqb-false}
 use Rattle.tree.specs.Numbers.{count, upTo, run}
-use Rattle.tree.specs.Table.{none, nodes}
-use Rattle.tree.specs.Forest.{Forest, nil, node, treeOf, size, preorder, entry, siblings}
+use Rattle.tree.specs.Table.{nodes}
+use Rattle.tree.specs.Forest.{Forest, nil, node, treeOf, size, preorder}
 use Rattle.tree.specs.Levels.{Pair}
 use Rattle.tree.specs.Shape.{sameShape, corresponding}
 use Rattle.tree.specs.WellFormed.{tableNumber}
 use Rattle.tree.specs.Operations.{numberFrom, renumbered, oldNumbers}
 use Rattle.tree.proofs.Counting.{Below, below-upTo, count-upTo}
 use Rattle.tree.proofs.Reading.{size-preorder}
-use Rattle.tree.proofs.Stands.{Numbers, numbers-size, accepted-numbers}
+use Rattle.tree.proofs.Stands.{Numbers, numbers-size, one-root, accepted-numbers}
 use Rattle.tree.proofs.TableOf.{tableOf-accepted, tableOf-tree}
 
 -- ---- m numbers from k on
@@ -94,13 +93,9 @@ tree-numbers n v f e few =
     order = run-upTo n ∙ ap (run 0) (sym e) ∙ sym (preorder-numberFrom 0 (node v f nil))
 
 pub numberFrom-numbers : (n : ℕ) (f : Forest) → Numbers n f → Numbers n (numberFrom 0 f)
-numberFrom-numbers n f N = go f (N .root) (N .alone) (numbers-size n f N)
-  where
-    go : (f : Forest) → entry f ≡ 0 → siblings f ≡ nil → size f ≡ n → Numbers n (numberFrom 0 f)
-    go nil root alone e = absurd (eqb-false none 0 refl root)
-    go (node v below after) root alone e =
-        subst (λ (g : Forest). Numbers n (numberFrom 0 (node v below g))) (sym alone)
-        (tree-numbers n v below (ap (λ (g : Forest). size (node v below g)) (sym alone) ∙ e) (N .few))
+numberFrom-numbers n f N =
+    let r = one-root n f N in
+    subst⁻¹ (λ (g : Forest). Numbers n (numberFrom 0 g)) (r .1) (tree-numbers n 0 (r .0) (ap size (sym (r .1)) ∙ numbers-size n f N) (N .few))
 
 -- ---- the renumbered table
 

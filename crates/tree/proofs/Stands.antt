@@ -1,5 +1,5 @@
 -- A table that agrees with a tree on the numbers below n is accepted and stands for that tree. Assumes nothing.
-use mathlib.Core.Path.{_≡_, refl, sym, ap, _∙_, subst}
+use mathlib.Core.Path.{_≡_, refl, sym, ap, ap₂, _∙_, subst}
 use mathlib.Core.Logic.{_⊎_, inl, inr, ⊎-elim}
 use mathlib.Core.Bool.{false}
 use mathlib.Core.List.{List}
@@ -35,6 +35,14 @@ numbers-size n f N =
       distinct-length n (preorder f) (N .below) (λ v h. omega (arith, N .each v h)),
       covering-length n (preorder f) (λ v h. omega (arith, N .each v h)),
     )
+
+-- so it is node 0 over the forest of its children
+pub one-root : (n : ℕ) (f : Forest) → Numbers n f → (below : Forest) × (f ≡ node 0 below nil)
+one-root n f N = go f (N .root) (N .alone)
+  where
+    go : (f : Forest) → entry f ≡ 0 → siblings f ≡ nil → (below : Forest) × (f ≡ node 0 below nil)
+    go nil root alone = absurd (omega arith)
+    go (node v below after) root alone = (below, ap₂ (λ (w : ℕ) (g : Forest). node w below g) root alone)
 
 -- ---- an accepted table
 

@@ -6,14 +6,14 @@ use native.Mathlib.Nat.{not-suc-le-zero}
 use native.Mathlib.Omega.{arith}
 use Rattle.tree.specs.Numbers.{flatMap}
 use Rattle.tree.specs.Table.{nodes, firstChild}
-use Rattle.tree.specs.Forest.{Forest, nil, node, join, forest, forestFrom, treeOf, size, preorder, roots, entry, siblings}
+use Rattle.tree.specs.Forest.{Forest, nil, node, join, forest, forestFrom, treeOf, size, preorder, roots}
 use Rattle.tree.specs.Levels.{childrenOf, walkFrom, walk, beside, levels}
 use Rattle.tree.specs.WellFormed.{tableNumber}
 use Rattle.tree.proofs.Counting.{Below, all-left, all-right}
 use Rattle.tree.proofs.Joined.{size-join, roots-join, beside-nil, levels-join}
 use Rattle.tree.proofs.Reading.{Agrees}
 use Rattle.tree.proofs.Linked.{read-back}
-use Rattle.tree.proofs.Stands.{accepted-agrees, accepted-numbers, accepted-size}
+use Rattle.tree.proofs.Stands.{one-root, accepted-agrees, accepted-numbers, accepted-size}
 
 -- ---- the forest one level down
 
@@ -84,10 +84,5 @@ accepted-leads t e =
 pub accepted-walk : (t : List ℕ) → tableNumber t ≡ 0 → walk t ≡ levels (treeOf t)
 unfolding walk
 accepted-walk t e =
-    let N = accepted-numbers t e in
-    ap (walkFrom (nodes t) t) (sym (root (treeOf t) (N .root) (N .alone)))
+    ap (λ (f : Forest). walkFrom (nodes t) t (roots f)) (sym (one-root (nodes t) (treeOf t) (accepted-numbers t e) .1))
     ∙ walk-levels t (nodes t) (treeOf t) (accepted-leads t e) (omega (arith, accepted-size t e))
-  where
-    root : (f : Forest) → entry f ≡ 0 → siblings f ≡ nil → roots f ≡ 0 ∷ []
-    root nil e s = absurd (omega arith)
-    root (node v f g) e s = ap₂ (λ (x : ℕ) (l : List ℕ). x ∷ l) e (ap roots s)
