@@ -31,9 +31,9 @@ module _ (n : ℕ) where
   unfolding treeAt
   at-levels p h = sequence-of-tree (sequenceAt n p) (at-sequence p h)
 
-  pub at-rising : (p q : ℕ) → p < q → q < treeCount n → comesBefore (sequenceAt n p) (sequenceAt n q) ≡ true
+  pub at-sorted : (p q : ℕ) → p < q → q < treeCount n → comesBefore (sequenceAt n p) (sequenceAt n q) ≡ true
   unfolding treeCount sequenceAt
-  at-rising = listed n .sorted
+  at-sorted = listed n .sorted
 
   place-of : (s : List ℕ) → isSequence s ≡ true → length s ≡ n → (p : ℕ) × (p < treeCount n) × (sequenceAt n p ≡ s)
   unfolding treeCount sequenceAt
@@ -42,7 +42,7 @@ module _ (n : ℕ) where
   -- a smaller place has another sequence
   other : (p q : ℕ) → p < q → q < treeCount n → sequenceAt n p ≡ sequenceAt n q → ⊥
   other p q h k e =
-      false≢true (sym (not-itself (sequenceAt n q)) ∙ ap (λ (s : List ℕ). comesBefore s (sequenceAt n q)) (sym e) ∙ at-rising p q h k)
+      false≢true (sym (not-itself (sequenceAt n q)) ∙ ap (λ (s : List ℕ). comesBefore s (sequenceAt n q)) (sym e) ∙ at-sorted p q h k)
 
   pub one-place : (p q : ℕ) → p < treeCount n → q < treeCount n → sequenceAt n p ≡ sequenceAt n q → p ≡ q
   one-place p q h k e =
@@ -134,7 +134,7 @@ module _ (m : ℕ) where
       (sym (least (sequenceAt n 0) (at-sequence n 0 some))
       ∙ ap (λ (k : ℕ). comesBefore (sequenceAt n 0) (levelsFrom 0 (star k))) (at-length n 0 some)
       ∙ ap (comesBefore (sequenceAt n 0)) (sym (sequence-there 0 (leaves m) o))
-      ∙ at-rising n 0 (o .place) h (o .within))))
+      ∙ at-sorted n 0 (o .place) h (o .within))))
       (eq-zero-or-pos (o .place))
 
   chain-end : suc (chain-place .place) ≡ treeCount n
@@ -147,7 +147,7 @@ module _ (m : ℕ) where
       (sym (greatest (sequenceAt n last) (at-sequence n last h))
       ∙ ap (λ (k : ℕ). comesBefore (levelsFrom 0 (chain k)) (sequenceAt n last)) (at-length n last h)
       ∙ ap (λ (s : List ℕ). comesBefore s (sequenceAt n last)) (sym (sequence-there 0 (chain m) o))
-      ∙ at-rising n (o .place) last (omega arith) h)))
+      ∙ at-sorted n (o .place) last (omega arith) h)))
       (eq-or-lt-of-le (o .within))
 
   pub complete : (trees : ℕ) → treeCount n ≡ trees → Complete n trees
@@ -156,7 +156,7 @@ module _ (m : ℕ) where
     each = tree-place n;
     star-first = ap (treeAt n) (sym star-zero) ∙ star-place .here;
     chain-last = ap (treeAt n) (omega (arith, chain-end)) ∙ chain-place .here;
-    rising = λ p q h k. at-rising n p q h (omega arith);
+    rising = λ p q h k. at-sorted n p q h (omega arith);
   }
 
 -- ---- the eight lists

@@ -141,14 +141,14 @@ pub record Filling (place n : ℕ) (levels : List ℕ) (behind rest node : ℕ) 
   pub whole : sets levels node (getD (further (n - node) behind) rest []) ≡ sequenceAt n place
 
 module _ (place : ℕ) (levels : List ℕ) (L : InList place levels) where
-  n : ℕ
+  abbrev n : ℕ
   n = length levels
 
-  pub some-level : 1 ≤ length levels
-  some-level = sequence-place (length levels) place (L .within) .0
+  pub some-level : 1 ≤ n
+  some-level = sequence-place n place (L .within) .0
 
-  pub fill-start : Filling place (length levels) (set levels 0 0) 0 place 1
-  unfolding overwrite n
+  pub fill-start : Filling place n (set levels 0 0) 0 place 1
+  unfolding overwrite
   fill-start =
       let here = sequence-place n place (L .within) .1 in
       let size : length (sequenceAt n place) ≡ n = at-length n place (L .within) in
