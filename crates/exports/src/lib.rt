@@ -9,6 +9,7 @@ ghost use Rattle.writer.specs.Write.{SheetWritten};
 ghost use Rattle.screen.specs.Screen.{OnScreenValues};
 ghost use Rattle.render.specs.Text.{SheetListed};
 ghost use Rattle.small_trees.specs.SmallTrees.{SmallTree};
+ghost use Rattle.trees_of_dots.specs.TreesOfDots.{TreesOfDotsValues};
 
 #[no_mangle]
 pub extern "C" fn hiwenoka_check_table(table: &[u16], nodes: &mut u16) -> u16
@@ -143,4 +144,22 @@ pub extern "C" fn hiwenoka_small_tree(nodes: u16, place: u16, table: &mut [u16])
     ensures { λ r. ⌜ SmallTree nodes place (now (table .entry)) r (now (table .exit)) ⌝ }
 {
     small_trees::small_tree(nodes, place, table)
+}
+
+#[no_mangle]
+pub extern "C" fn hiwenoka_trees_of_dots(
+    nodes: u16,
+    dots: &[i32],
+    separation: u16,
+    lowest: &mut u16,
+    count: &mut u16,
+) -> u16
+    ensures { λ r. ⌜ TreesOfDotsValues nodes (now (dots .entry)) separation (record { number = r; lowest = now (lowest .exit); count = now (count .exit) }) ⌝ }
+{
+    let found = trees_of_dots::trees_of_dots(nodes, dots, separation);
+    let fitting = found.fitting;
+    let values = trees_of_dots::values_of(found.number, fitting);
+    *lowest = values.lowest;
+    *count = values.count;
+    values.number
 }

@@ -26,7 +26,7 @@ abbrev pub Pairwise : {A : Type 0} → (A → A → Type 0) → List A → Type 
 Pairwise R [] = Unit {0}
 Pairwise R (x ∷ l) = All (R x) l × Pairwise R l
 
-pairwise-append : {A : Type 0} (R : A → A → Type 0) (l m : List A) → Pairwise R l → Pairwise R m → All (λ x. All (R x) m) l → Pairwise R (l ++ m)
+pub pairwise-append : {A : Type 0} (R : A → A → Type 0) (l m : List A) → Pairwise R l → Pairwise R m → All (λ x. All (R x) m) l → Pairwise R (l ++ m)
 pairwise-append R [] m a b c = b
 pairwise-append R (x ∷ l) m a b c = (all-append (R x) l m (a .0) (c .0), pairwise-append R l m (a .1) b (c .1))
 

@@ -13,31 +13,35 @@ use Rattle.refusal.proofs.Laws.{first-here, first-after, none-first, first-none
 use Rattle.refusal.proofs.Truth.{true-or-false, or-false, or-false-left, or-false-right}
 use Rattle.small_trees.specs.SmallTrees.{treeCount, mostNodes, sizeWrong, conditions, refusal, Says, no-size, no-place, too-short, taken}
 
-module _ (n place tableLength : ℕ) where
-  right-size : 1 ≤ n → n ≤ mostNodes → sizeWrong n ≡ false
+module _ (n : ℕ) where
+  pub right-size : 1 ≤ n → n ≤ mostNodes → sizeWrong n ≡ false
   right-size some few = or-false (le-ltb n 1 some) (le-ltb mostNodes n few)
 
-  size-right : sizeWrong n ≡ false → (1 ≤ n) × (n ≤ mostNodes)
+  pub size-right : sizeWrong n ≡ false → (1 ≤ n) × (n ≤ mostNodes)
   size-right e =
       (ltb-false n 1 (or-false-left (ltb n 1) (ltb mostNodes n) e), ltb-false mostNodes n (or-false-right (ltb n 1) (ltb mostNodes n) e))
 
+  pub wrong-size : (1 ≤ n → n ≤ mostNodes → ⊥) → sizeWrong n ≡ true
+  wrong-size wrong = ⊎-elim (λ e. e) (λ e. absurd (wrong (size-right e .0) (size-right e .1))) (true-or-false (sizeWrong n))
+
+module _ (n place tableLength : ℕ) where
   abbrev all : List Condition
   all = conditions n place tableLength
 
   pub number-20 : (1 ≤ n → n ≤ mostNodes → ⊥) → refusal n place tableLength ≡ 20
   unfolding refusal
-  number-20 wrong = first-here (20 ⇐ sizeWrong n) (drop 1 all) (⊎-elim (λ e. e) (λ e. absurd (wrong (size-right e .0) (size-right e .1))) (true-or-false (sizeWrong n)))
+  number-20 wrong = first-here (20 ⇐ sizeWrong n) (drop 1 all) (wrong-size n wrong)
 
   pub number-21 : 1 ≤ n → n ≤ mostNodes → treeCount n ≤ place → refusal n place tableLength ≡ 21
   unfolding refusal
   number-21 some few past =
-      first-after (20 ⇐ sizeWrong n) (drop 1 all) (right-size some few)
+      first-after (20 ⇐ sizeWrong n) (drop 1 all) (right-size n some few)
       ∙ first-here (21 ⇐ leb (treeCount n) place) (drop 2 all) (le-leb (treeCount n) place past)
 
   pub number-7 : 1 ≤ n → n ≤ mostNodes → place < treeCount n → tableLength < 2 * n → refusal n place tableLength ≡ 7
   unfolding refusal
   number-7 some few within short =
-      first-after (20 ⇐ sizeWrong n) (drop 1 all) (right-size some few)
+      first-after (20 ⇐ sizeWrong n) (drop 1 all) (right-size n some few)
       ∙ first-after (21 ⇐ leb (treeCount n) place) (drop 2 all) (lt-leb (treeCount n) place within)
       ∙ first-here (7 ⇐ ltb tableLength (2 * n)) [] (lt-ltb tableLength (2 * n) short)
 
@@ -45,15 +49,15 @@ module _ (n place tableLength : ℕ) where
   unfolding refusal
   number-0 some few within room =
       none-first all
-      (right-size some few, (lt-leb (treeCount n) place within, (le-ltb tableLength (2 * n) room, tt)))
+      (right-size n some few, (lt-leb (treeCount n) place within, (le-ltb tableLength (2 * n) room, tt)))
 
   pub number-says : Says n place tableLength (refusal n place tableLength)
   number-says =
       ⊎-elim (λ e.
-      let wrong : 1 ≤ n → n ≤ mostNodes → ⊥ = λ some few. false≢true (sym (right-size some few) ∙ e) in
+      let wrong : 1 ≤ n → n ≤ mostNodes → ⊥ = λ some few. false≢true (sym (right-size n some few) ∙ e) in
       subst⁻¹ (Says n place tableLength) (number-20 wrong) (no-size wrong))
       (λ e.
-      let s = size-right e in
+      let s = size-right n e in
       ⊎-elim (λ p.
       let past = leb-true (treeCount n) place p in
       subst⁻¹ (Says n place tableLength) (number-21 (s .0) (s .1) past) (no-place (s .0) (s .1) past))
@@ -73,5 +77,5 @@ module _ (n place tableLength : ℕ) where
   unfolding refusal
   accepted e =
       let none = first-none all (omega arith) e in
-      let s = size-right (none .0) in
+      let s = size-right n (none .0) in
       (s .0, s .1, leb-false (treeCount n) place (none .1 .0), ltb-false tableLength (2 * n) (none .1 .1 .0))

@@ -8,7 +8,7 @@ use native.Mathlib.Numerals.{add-one}
 use native.Mathlib.Omega.{arith}
 use lib.Dec.{eqb, ltb}
 use lib.ListN.{length, getD, set, drop, length-append, length-map, length-set, List·getD-append}
-use lib.Seq.{getD-append-add, sets, drop-length}
+use lib.Seq.{drop-cons, drop-append-add, drop-append-le, getD-drop, sets, drop-length}
 use borrow.Author.Tests.{eqb-true, le-ltb, not-false}
 use Rattle.refusal.specs.After.{overwrite}
 use Rattle.refusal.proofs.After.{sets-start}
@@ -47,17 +47,23 @@ getD-within f [] i h = absurd (not-suc-le-zero h)
 getD-within f (x ∷ l) zero h = refl
 getD-within f (x ∷ l) (suc i) h = getD-within f l i (le-of-suc-le-suc h)
 
--- the ways with a smaller next level are counted off
+pub drop-map : (f : List ℕ → List ℕ) (i : ℕ) (l : List (List ℕ)) → drop i (map f l) ≡ map f (drop i l)
+drop-map f zero l = refl
+drop-map f (suc i) [] = refl
+drop-map f (suc i) (x ∷ l) = drop-map f i l
+
+-- the ways with a smaller next level are counted off: from the place on, the list is what is left of those with this level and greater ones
 pub record Counted (more behind place level rest : ℕ) : Type 0 where
   pub left : ℕ
+  pub some : 1 ≤ level
   pub levels : level + left ≡ suc (suc behind)
   pub within : rest < length (branches more level left)
-  pub here : getD (branches more level left) rest [] ≡ getD (further (suc more) behind) place []
+  pub ahead : drop place (further (suc more) behind) ≡ drop rest (branches more level left)
 
 module _ (more behind place : ℕ) where
   pub count-start : Choice more behind place → Counted more behind place 1 place
   unfolding further
-  count-start c = record { left = suc behind; levels = omega arith; within = c .within; here = refl }
+  count-start c = record { left = suc behind; some = omega arith; levels = omega arith; within = c .within; ahead = refl }
 
   module _ (level rest : ℕ) (C : Counted more behind place level rest) where
     head : List (List ℕ)
@@ -72,34 +78,45 @@ module _ (more behind place : ℕ) where
 
     pub count-next : length (further more level) ≤ rest → Counted more behind place (level + 1) (rest - length (further more level))
     unfolding head
-    count-next h = go (C .left) (C .levels) (C .within) (C .here)
+    count-next h = go (C .left) (C .levels) (C .within) (C .ahead)
       where
         go : (left : ℕ) → level + left ≡ suc (suc behind) → rest < length (branches more level left)
-            → getD (branches more level left) rest [] ≡ getD (further (suc more) behind) place []
+            → drop place (further (suc more) behind) ≡ drop rest (branches more level left)
             → Counted more behind place (level + 1) (rest - length (further more level))
         go zero e w g = absurd (not-suc-le-zero w)
         go (suc left) e w g =
             let size = length-map (further more level) (λ s. level ∷ s) in
-            let split : length head + (rest - length (further more level)) ≡ rest = omega (arith, size) in
+            let split : rest ≡ length head + (rest - length (further more level)) = omega (arith, size) in
             record {
               left = left;
+              some = omega arith;
               levels = omega arith;
               within = omega (arith, size, length-append head (branches more (level + 1) left));
-              here =
-                  sym (getD-append-add head (branches more (level + 1) left) (rest - length (further more level)) [])
-                  ∙ ap (λ (i : ℕ). getD (head ++ branches more (level + 1) left) i []) split
-                  ∙ g;
+              ahead =
+                  g
+                  ∙ ap (λ (i : ℕ). drop i (head ++ branches more (level + 1) left)) split
+                  ∙ drop-append-add head (branches more (level + 1) left) (rest - length (further more level));
             }
 
     pub chosen : rest < length (further more level) → Chosen more behind place (record { level = level; place = rest })
     unfolding head
-    chosen h = record { here = sym (C .here) ∙ go (C .left) (C .within); within = h; deep = level-deep }
+    chosen h = go (C .left) (C .within) (C .ahead)
       where
-        go : (left : ℕ) → rest < length (branches more level left) → getD (branches more level left) rest [] ≡ level ∷ getD (further more level) rest []
-        go zero w = absurd (not-suc-le-zero w)
-        go (suc left) w =
-            List·getD-append head (branches more (level + 1) left) [] rest (omega (arith, length-map (further more level) (λ s. level ∷ s)))
-            ∙ getD-within (λ s. level ∷ s) (further more level) rest h
+        go : (left : ℕ) → rest < length (branches more level left) → drop place (further (suc more) behind) ≡ drop rest (branches more level left)
+            → Chosen more behind place (record { level = level; place = rest })
+        go zero w g = absurd (not-suc-le-zero w)
+        go (suc left) w g =
+            let others = branches more (level + 1) left in
+            record {
+              after = others;
+              ahead =
+                  g
+                  ∙ drop-append-le rest head others (omega (arith, length-map (further more level) (λ s. level ∷ s)))
+                  ∙ ap (λ (l : List (List ℕ)). l ++ others) (drop-map (λ s. level ∷ s) rest (further more level));
+              within = h;
+              some = C .some;
+              deep = level-deep;
+            }
 
     -- the greatest level takes what is left
     pub last-within : behind < level → rest < length (further more level)
@@ -110,6 +127,16 @@ module _ (more behind place : ℕ) where
         go zero e w = absurd (not-suc-le-zero w)
         go (suc zero) e w = omega (arith, ap length (append-nil head), length-map (further more level) (λ s. level ∷ s))
         go (suc (suc left)) e w = absurd (omega arith)
+
+-- the way at the place itself
+chosen-here : (more behind place : ℕ) (b : Branch) → Chosen more behind place b
+    → getD (further (suc more) behind) place [] ≡ b .level ∷ getD (further more (b .level)) (b .place) []
+chosen-here more behind place b C =
+    let here : place ≡ place + 0 = omega arith in
+    ap (λ (i : ℕ). getD (further (suc more) behind) i []) here
+    ∙ sym (getD-drop place (further (suc more) behind) 0 [])
+    ∙ ap (λ (l : List (List ℕ)). getD l 0 []) (C .ahead)
+    ∙ ap (λ (l : List (List ℕ)). getD (map (λ s. b .level ∷ s) l ++ C .after) 0 []) (drop-cons (further more (b .level)) (b .place) [] (C .within))
 
 -- ---- the levels in a row
 
@@ -189,7 +216,7 @@ module _ (place n : ℕ) (levels : List ℕ) (behind rest node : ℕ) (F : Filli
         whole =
             ap (λ (k : ℕ). sets (set levels node (b .level)) (node + 1) (getD (further k (b .level)) (b .place) [])) left
             ∙ ap (λ (i : ℕ). sets (set levels node (b .level)) i (getD (further (n - 1 - node) (b .level)) (b .place) [])) (add-one node)
-            ∙ ap (sets levels node) (sym (C .here))
+            ∙ ap (sets levels node) (sym (chosen-here (n - 1 - node) behind rest b C))
             ∙ ap (λ (k : ℕ). sets levels node (getD (further k behind) rest [])) (sym (one-more h))
             ∙ F .whole;
       }

@@ -2,8 +2,8 @@
 use Prim.Native.Nat.{ℕ, suc, _+_, _*_, _≤_, _<_}
 use mathlib.Core.Path.{_≡_}
 use mathlib.Core.Bool.{true}
-use mathlib.Core.List.{List, [], _∷_}
-use lib.ListN.{length, getD}
+use mathlib.Core.List.{List, _∷_, _++_, map}
+use lib.ListN.{length, getD, drop}
 use Rattle.small_trees.specs.Sequence.{isSequence}
 use Rattle.small_trees.specs.SmallTrees.{further, treeCount, mostNodes}
 use Rattle.small_trees.specs.declared.levels.Branch.{Branch}
@@ -20,10 +20,13 @@ pub record Choice (more behind place : ℕ) : Type 0 where
   pub few : suc (more + behind) < mostNodes
   pub within : place < length (further (suc more) behind)
 
--- the next level there, and the place among the ways to go on from it
+-- The next level there, and the place among the ways to go on from it. From the place on, the list has first what is left of the ways with
+-- that level.
 pub record Chosen (more behind place : ℕ) (b : Branch) : Type 0 where
-  pub here : getD (further (suc more) behind) place [] ≡ b .level ∷ getD (further more (b .level)) (b .place) []
+  pub after : List (List ℕ)
+  pub ahead : drop place (further (suc more) behind) ≡ map (λ s. b .level ∷ s) (drop (b .place) (further more (b .level))) ++ after
   pub within : b .place < length (further more (b .level))
+  pub some : 1 ≤ b .level
   pub deep : b .level ≤ suc behind
 
 -- a place of the list of so many levels, at most 8

@@ -102,7 +102,7 @@ pub fn ways(counts: &[u16], more: usize, behind: usize) -> u16
 }
 
 // The next level behind a level, with `more` levels after it, at a place among the ways to go on: the greatest takes what is left.
-fn choose(counts: &[u16], more: usize, behind: usize, place: u16) -> Branch
+pub fn choose(counts: &[u16], more: usize, behind: usize, place: u16) -> Branch
     requires { ⌜ Ways (now counts) ⌝ }
     requires { ⌜ Choice more behind place ⌝ }
     ensures { λ r. ⌜ Chosen more behind place r ⌝ }

@@ -6,8 +6,8 @@ ghost use Rattle.tree.specs.Forest.{tableOf};
 ghost use Rattle.small_trees.specs.SmallTrees.{treeAt, refusal, SmallTree};
 ghost use Rattle.small_trees.specs.Steps.{Ways, InList};
 
-mod levels;
-mod links;
+pub mod levels;
+pub mod links;
 
 use levels::WAYS;
 use levels::levels_at;

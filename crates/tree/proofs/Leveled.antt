@@ -18,7 +18,7 @@ abbrev pub Leveled : (ℕ → ℕ) → ℕ → List (List ℕ) → Type 0
 Leveled lev i [] = Unit {0}
 Leveled lev i (l ∷ ls) = All (λ v. lev v ≡ i) l × Leveled lev (suc i) ls
 
-all-counted : (P : ℕ → Type 0) (l : List ℕ) → ((v : ℕ) → 1 ≤ count v l → P v) → All P l
+pub all-counted : (P : ℕ → Type 0) (l : List ℕ) → ((v : ℕ) → 1 ≤ count v l → P v) → All P l
 all-counted P [] h = tt
 all-counted P (x ∷ l) h = (h x (omega (arith, is-same x x refl)), all-counted P l (λ v k. h v (omega (arith, k))))
 

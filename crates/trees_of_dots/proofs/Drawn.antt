@@ -1,0 +1,52 @@
+-- The layout of a table by the operation, with half-widths 0, is that of the written rule with the separation alone. Assumes nothing.
+use mathlib.Core.Path.{_≡_, refl, sym, ap, ap₂, _∙_}
+use mathlib.Core.List.{List, [], _∷_, _++_, map, map-append}
+use Prim.Native.Nat.{ℕ, zero, suc, _*_, _≤_, _<_}
+use native.Mathlib.Omega.{arith}
+use lib.IntN.{ℤ, pos}
+use lib.ListN.{length, replicate, getD-replicate}
+use Rattle.distance.specs.Needed.{halfWidth, needed}
+use Rattle.distance.proofs.HalfWidths.{narrow-good}
+use Rattle.tree.specs.Numbers.{upTo}
+use Rattle.tree.specs.Table.{nodes}
+use Rattle.tree.specs.Levels.{level, together}
+use Rattle.rule.specs.Drawing.{Dot}
+use Rattle.rule.specs.Result.{Slices, Answer, Layout, layoutNumber, placeIn, place}
+use Rattle.rule.proofs.Own.{no-widths}
+use Rattle.layout.specs.Operation.{slices}
+use Rattle.layout.proofs.Answers.{results-long, work-long, number-0}
+use Rattle.layout.proofs.Returned.{accepted, placeOf, levelOf, place-returned, level-returned}
+use Rattle.small_trees.specs.SmallTrees.{mostNodes}
+use Rattle.trees_of_dots.specs.Points.{Point, point, apart, nodePoint, laidOut}
+use Rattle.trees_of_dots.specs.Steps.{Drawable, pointsAt}
+
+map-below : (f g : ℕ → Point) (n : ℕ) → ((v : ℕ) → v < n → f v ≡ g v) → map f (upTo n) ≡ map g (upTo n)
+map-below f g zero h = refl
+map-below f g (suc n) h =
+    map-append f (upTo n) (n ∷ [])
+    ∙ ap₂ (λ (l : List Point) (a : Point). l ++ a ∷ []) (map-below f g n (λ v k. h v (omega arith))) (h n (omega arith))
+    ∙ sym (map-append g (upTo n) (n ∷ []))
+
+-- what an accepted call leaves, where no node has a half-width above 0
+pub drawn-points : (t : List ℕ) (D : ℕ) (hs : List ℕ) (s : Slices) (a : Answer) (u : Slices) → Layout t D hs s a u → a .number ≡ 0
+    → ((v : ℕ) → v < nodes t → halfWidth hs v ≡ 0) → pointsAt (nodes t) (u .levels) (u .places) ≡ laidOut D t
+unfolding laidOut place
+drawn-points t D hs s a u L ok none =
+    map-below (λ v. point (pos (levelOf t D hs s a u L ok v)) (placeOf t D hs s a u L ok v)) (nodePoint D t) (nodes t)
+    (λ v h.
+    ap₂ point (ap pos (level-returned t D hs s a u L ok v h))
+    (place-returned t D hs s a u L ok v h ∙ ap (λ (ls : List (List Dot)). placeIn (together ls) v) (no-widths t (accepted t D hs s a u L ok) D hs none)))
+
+-- the slices of eight nodes
+abbrev pub lent : Slices
+lent = slices (replicate 8 (pos 0)) (replicate 8 0) (replicate 16 0) (replicate 128 (pos 0))
+
+-- are enough for a table of at most eight
+pub lent-taken : (t : List ℕ) (dots : List ℤ) (D : ℕ) → Drawable t dots D → layoutNumber t D (replicate 8 0) lent ≡ 0
+lent-taken t dots D R =
+    let few = R .plot .few in
+    sym
+    (number-0 t D (replicate 8 0) lent (R .accepted) (R .plot .apart)
+    (narrow-good (replicate 8 0) (nodes t) few (λ v h. omega (arith, getD-replicate {A = ℕ} 8 v 0 0 (omega arith))))
+    (results-long t lent few few (omega arith))
+    (work-long t lent (omega arith)))
