@@ -7,7 +7,7 @@ use native.Mathlib.Nat.{not-suc-le-zero, le-of-suc-le-suc}
 use native.Mathlib.Numerals.{add-one}
 use native.Mathlib.Omega.{arith}
 use lib.Dec.{eqb, ltb}
-use lib.ListN.{length, getD, set, drop, length-append, length-map, length-set, List·getD-append}
+use lib.ListN.{length, getD, set, drop, length-append, length-map, length-set}
 use lib.Seq.{drop-cons, drop-append-add, drop-append-le, getD-drop, sets, drop-length}
 use borrow.Author.Tests.{eqb-true, le-ltb, not-false}
 use Rattle.refusal.specs.After.{overwrite}

@@ -8,14 +8,14 @@ use native.Mathlib.Nat.{not-suc-le-zero}
 use native.Mathlib.Numerals.{add-one}
 use native.Mathlib.Omega.{arith}
 use lib.ListN.{length, getD, set, take, drop, length-append, length-drop, length-map, length-set, List·getD-append}
-use lib.Seq.{append-snoc, drop-at, getD-drop, getD-set-same, getD-set-other, take-length, take-suc-set}
+use lib.Seq.{getD-drop, getD-set-same, getD-set-other, take-length, take-suc-set}
 use Rattle.tree.specs.Numbers.{is, count}
 use Rattle.tree.proofs.Counting.{count-append, is-same, is-cases}
 use Rattle.small_trees.specs.SmallTrees.{further, sequences, treeCount, sequenceAt, mostNodes}
 use Rattle.small_trees.specs.Steps.{Choice, Chosen}
 use Rattle.small_trees.specs.declared.levels.Branch.{Branch}
 use Rattle.small_trees.proofs.Ways.{drop-map, getD-within}
-use Rattle.trees_of_dots.specs.Steps.{Descends, Descended, Exceeds}
+use Rattle.trees_of_dots.specs.Steps.{Descends, Descended}
 
 -- the levels before a node are stored, and `left` is what they leave of the profile
 pub record Descending (n place : ℕ) (profile left levels : List ℕ) (behind rest node : ℕ) : Type 0 where

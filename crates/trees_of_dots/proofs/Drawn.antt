@@ -1,24 +1,27 @@
 -- The layout of a table by the operation, with half-widths 0, is that of the written rule with the separation alone. Assumes nothing.
 use mathlib.Core.Path.{_≡_, refl, sym, ap, ap₂, _∙_}
 use mathlib.Core.List.{List, [], _∷_, _++_, map, map-append}
-use Prim.Native.Nat.{ℕ, zero, suc, _*_, _≤_, _<_}
+use Prim.Native.Nat.{ℕ, zero, suc, _<_}
 use native.Mathlib.Omega.{arith}
 use lib.IntN.{ℤ, pos}
-use lib.ListN.{length, replicate, getD-replicate}
-use Rattle.distance.specs.Needed.{halfWidth, needed}
+use lib.ListN.{replicate, getD-replicate}
+use Rattle.distance.specs.Needed.{halfWidth}
+use Rattle.distance.proofs.Separation.{good-separation}
 use Rattle.distance.proofs.HalfWidths.{narrow-good}
 use Rattle.tree.specs.Numbers.{upTo}
 use Rattle.tree.specs.Table.{nodes}
-use Rattle.tree.specs.Levels.{level, together}
+use Rattle.tree.specs.Levels.{together}
 use Rattle.rule.specs.Drawing.{Dot}
 use Rattle.rule.specs.Result.{Slices, Answer, Layout, layoutNumber, placeIn, place}
 use Rattle.rule.proofs.Own.{no-widths}
 use Rattle.layout.specs.Operation.{slices}
 use Rattle.layout.proofs.Answers.{results-long, work-long, number-0}
 use Rattle.layout.proofs.Returned.{accepted, placeOf, levelOf, place-returned, level-returned}
-use Rattle.small_trees.specs.SmallTrees.{mostNodes}
-use Rattle.trees_of_dots.specs.Points.{Point, point, apart, nodePoint, laidOut}
-use Rattle.trees_of_dots.specs.Steps.{Drawable, pointsAt}
+use Rattle.plots.specs.Points.{Point, point, pointsOf, allAmong, apart, nodePoint, laidOut, tableFits}
+use Rattle.plots.specs.Dots.{pointsAt}
+use Rattle.plots.proofs.Laid.{among-fits}
+use Rattle.plots.proofs.Sound.{sound, points-length}
+use Rattle.trees_of_dots.specs.Steps.{Drawable}
 
 map-below : (f g : ℕ → Point) (n : ℕ) → ((v : ℕ) → v < n → f v ≡ g v) → map f (upTo n) ≡ map g (upTo n)
 map-below f g zero h = refl
@@ -50,3 +53,12 @@ lent-taken t dots D R =
     (narrow-good (replicate 8 0) (nodes t) few (λ v h. omega (arith, getD-replicate {A = ℕ} 8 v 0 0 (omega arith))))
     (results-long t lent few few (omega arith))
     (work-long t lent (omega arith)))
+
+-- and then it is enough that every node's point is among the dots
+pub drawn-fits : (t : List ℕ) (dots : List ℤ) (D : ℕ) → Drawable t dots D → (a : Answer) (u : Slices) → Layout t D (replicate 8 0) lent a u
+    → allAmong (pointsOf dots) (pointsAt (nodes t) (u .levels) (u .places)) ≡ tableFits D (pointsOf dots) t
+drawn-fits t dots D R a u L =
+    let S = sound (nodes t) dots (R .plot .right) in
+    ap (allAmong (pointsOf dots))
+    (drawn-points t D (replicate 8 0) lent a u L (L .number ∙ lent-taken t dots D R) (λ v h. getD-replicate {A = ℕ} 8 v 0 0 (omega (arith, R .plot .few))))
+    ∙ among-fits D (good-separation D (R .plot .apart) .0) t (R .accepted) (pointsOf dots) (S .rise) (points-length (nodes t) dots (S .entries))

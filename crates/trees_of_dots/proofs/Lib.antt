@@ -1,13 +1,10 @@
--- Why the trees that are found are those that fit. Stands on `small_trees`, `rule`, `layout`, `tree` and `refusal`.
-pub mod Order
-pub mod Sets
-pub mod Laid
-pub mod Bits
-pub mod Entries
-pub mod Sound
-pub mod Profiles
+-- Why the trees that are found are those that fit, and what a call returns. Stands on `plots`, `small_trees`, `layout` and `rule`.
 pub mod Drawn
 pub mod Numbers
 pub mod Descent
 pub mod Listed
+pub mod Those
 pub mod Searching
+pub mod Tables
+pub mod Returned
+pub mod Example

@@ -1,32 +1,33 @@
 -- The tables of the trees of the list: they are accepted, and their levels are the sequences of the list. So a tree with more nodes on a
 -- level than there are dots does not fit. Assumes nothing.
-use mathlib.Core.Path.{_≡_, sym, ap, _∙_, subst, subst⁻¹}
+use mathlib.Core.Path.{_≡_, sym, ap, _∙_, subst⁻¹}
 use mathlib.Core.Logic.{⊎-elim}
 use mathlib.Core.Bool.{true, false}
-use mathlib.Core.List.{List, map}
+use mathlib.Core.List.{List}
 use Prim.Native.Nat.{ℕ, _*_, _≤_, _<_}
 use native.Mathlib.Omega.{arith}
-use lib.IntN.{ℤ, natAbs}
+use lib.IntN.{ℤ}
 use lib.ListN.{length}
 use Rattle.refusal.proofs.Truth.{true-or-false}
 use Rattle.distance.proofs.Separation.{good-separation}
 use Rattle.tree.specs.Numbers.{count}
 use Rattle.tree.specs.Table.{nodes}
-use Rattle.tree.specs.Forest.{Forest, treeOf, tableOf}
+use Rattle.tree.specs.Forest.{tableOf}
 use Rattle.tree.specs.WellFormed.{tableNumber}
 use Rattle.tree.proofs.Stands.{Numbers}
 use Rattle.tree.proofs.TableOf.{tableOf-accepted, tableOf-tree, nodes-tableOf, length-tableOf}
 use Rattle.small_trees.specs.Sequence.{levelSequence, levelsFrom, isSequence, treeOfLevels}
 use Rattle.small_trees.specs.SmallTrees.{treeCount, sequenceAt, treeAt, mostNodes}
-use Rattle.small_trees.proofs.AllComplete.{at-sequence, at-length, at-levels}
+use Rattle.small_trees.proofs.AllComplete.{at-length, at-levels}
 use Rattle.small_trees.proofs.Answer.{at-numbers}
 use Rattle.small_trees.proofs.Rows.{tree-of-numbers}
 use Rattle.small_trees.proofs.Tables.{sequence-table}
-use Rattle.trees_of_dots.specs.Points.{Point, pointsOf, tableFits}
+use Rattle.plots.specs.Points.{Point, pointsOf, tableFits}
+use Rattle.plots.specs.Dots.{levelsIn, Profile}
 use Rattle.trees_of_dots.specs.TreesOfDots.{fits}
-use Rattle.trees_of_dots.specs.Steps.{Plot, Drawable, Profile, Exceeds, levelsIn}
-use Rattle.trees_of_dots.proofs.Sound.{Sound, sound, points-length}
-use Rattle.trees_of_dots.proofs.Laid.{reading, reading-levels, fits-reading}
+use Rattle.trees_of_dots.specs.Steps.{Plot, Drawable, Exceeds}
+use Rattle.plots.proofs.Sound.{Sound, sound, points-length}
+use Rattle.plots.proofs.Laid.{reading-levels, fits-reading}
 
 -- ---- the table of a sequence
 
@@ -71,7 +72,7 @@ module _ (n place : ℕ) (few : n ≤ mostNodes) (within : place < treeCount n) 
   -- and not where it has more nodes on a level than there are dots
   module _ (dots : List ℤ) (D : ℕ) (P : Plot n dots D) (profile : List ℕ) (counted : Profile (pointsOf dots) profile) where
     pub exceeds-unfit : Exceeds profile (sequenceAt n place) → fits n D (pointsOf dots) place ≡ false
-    unfolding fits
+    unfolding fits levelSequence
     exceeds-unfit over = ⊎-elim (λ e. absurd (clash e)) (λ e. e) (true-or-false (fits n D (pointsOf dots) place))
       where
         S : Sound n dots

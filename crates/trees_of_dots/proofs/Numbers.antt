@@ -13,8 +13,9 @@ use Rattle.refusal.proofs.Truth.{true-or-false}
 use Rattle.distance.specs.Needed.{badSeparation}
 use Rattle.distance.proofs.Separation.{separation-good, good-separation}
 use Rattle.small_trees.specs.SmallTrees.{mostNodes, sizeWrong}
-use Rattle.small_trees.proofs.Numbers.{right-size, size-right, wrong-size}
-use Rattle.trees_of_dots.specs.TreesOfDots.{dotsWrong, conditions, refusal, Says, no-size, no-dots, no-separation, taken}
+use Rattle.small_trees.proofs.Numbers.{right-size, size-right}
+use Rattle.plots.specs.Dots.{dotsWrong}
+use Rattle.trees_of_dots.specs.TreesOfDots.{conditions, refusal, Says, no-size, no-dots, no-separation, taken}
 use Rattle.trees_of_dots.specs.Steps.{Plot}
 
 module _ (n : ℕ) (dots : List ℤ) (D : ℕ) where

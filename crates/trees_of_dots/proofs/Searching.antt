@@ -1,52 +1,20 @@
 -- The search, place by place: what was found so far is the answer of the places that were tried. Assumes nothing.
-use mathlib.Core.Path.{_≡_, refl, sym, ap, ap₂, _∙_, subst}
+use mathlib.Core.Path.{_≡_, refl, sym, ap, _∙_}
 use mathlib.Core.Bool.{Bool, true, false, cond}
 use mathlib.Core.List.{List, [], _∷_, _++_, append-nil}
-use Prim.Native.Nat.{ℕ, zero, suc, _+_, _≤_, _<_}
-use native.Mathlib.Numerals.{add-one}
+use Prim.Native.Nat.{ℕ, suc, _+_, _≤_}
 use native.Mathlib.Omega.{arith}
 use lib.ListN.{length, length-append}
 use Rattle.tree.specs.Numbers.{upTo}
 use Rattle.second_walk.proofs.EntryForEach.{length-upTo}
 use Rattle.small_trees.specs.SmallTrees.{treeCount}
-use Rattle.trees_of_dots.specs.Points.{Point}
+use Rattle.plots.specs.Points.{Point}
 use Rattle.trees_of_dots.specs.TreesOfDots.{fits, those, fittingPlaces, answerOf}
 use Rattle.trees_of_dots.specs.Steps.{TriedAt, withPlace, countOf}
 use Rattle.trees_of_dots.specs.declared.Fitting.{Fitting}
 use Rattle.trees_of_dots.specs.declared.Fitting.the-variants.{Trees, None}
 use Rattle.trees_of_dots.specs.declared.search.Tried.{Tried}
-
--- ---- the places that pass a test
-
-module _ (test : ℕ → Bool) where
-  pub those-append : (l m : List ℕ) → those test (l ++ m) ≡ those test l ++ those test m
-  those-append [] m = refl
-  those-append (x ∷ l) m = go (test x) (those-append l m)
-    where
-      go : (b : Bool) → those test (l ++ m) ≡ those test l ++ those test m
-          → cond b (x ∷ those test (l ++ m)) (those test (l ++ m)) ≡ cond b (x ∷ those test l) (those test l) ++ those test m
-      go true e = ap (λ (r : List ℕ). x ∷ r) e
-      go false e = e
-
-  pub those-few : (l : List ℕ) → length (those test l) ≤ length l
-  those-few [] = omega arith
-  those-few (x ∷ l) = go (test x) (those-few l)
-    where
-      go : (b : Bool) → length (those test l) ≤ length l → length (cond b (x ∷ those test l) (those test l)) ≤ suc (length l)
-      go true h = omega arith
-      go false h = omega arith
-
-  -- of the places from p on only p may pass
-  those-onward : (p s : ℕ) → 1 ≤ s → ((q : ℕ) → p < q → q < p + s → test q ≡ false) → those test (upTo (p + s)) ≡ those test (upTo p) ++ those test (p ∷ [])
-  those-onward p zero some none = absurd (omega arith)
-  those-onward p (suc zero) some none = ap (λ (k : ℕ). those test (upTo k)) (add-one p) ∙ those-append (upTo p) (p ∷ [])
-  those-onward p (suc (suc s)) some none =
-      let last : p + suc (suc s) ≡ suc (p + suc s) = omega arith in
-      ap (λ (k : ℕ). those test (upTo k)) last
-      ∙ those-append (upTo (p + suc s)) ((p + suc s) ∷ [])
-      ∙ ap (λ (b : Bool). those test (upTo (p + suc s)) ++ cond b ((p + suc s) ∷ []) []) (none (p + suc s) (omega arith) (omega arith))
-      ∙ append-nil (those test (upTo (p + suc s)))
-      ∙ those-onward p (suc s) (omega arith) (λ q h k. none q h (omega arith))
+use Rattle.trees_of_dots.proofs.Those.{those-few, those-onward}
 
 -- ---- the answer
 

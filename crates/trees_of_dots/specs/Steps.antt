@@ -1,17 +1,18 @@
 -- What the inner steps promise.
-use Prim.Native.Nat.{ℕ, suc, _+_, _*_, _≤_, _<_}
+use Prim.Native.Nat.{ℕ, _+_, _≤_, _<_}
 use mathlib.Core.Path.{_≡_}
-use mathlib.Core.Bool.{Bool, true, false}
-use mathlib.Core.List.{List, map}
-use lib.IntN.{ℤ, pos, natAbs}
+use mathlib.Core.Bool.{false}
+use mathlib.Core.List.{List}
+use lib.IntN.{ℤ}
 use lib.ListN.{length, getD}
 use Rattle.distance.specs.Needed.{badSeparation}
-use Rattle.tree.specs.Numbers.{upTo, count}
+use Rattle.tree.specs.Numbers.{count}
 use Rattle.tree.specs.Table.{nodes}
 use Rattle.tree.specs.WellFormed.{tableNumber}
 use Rattle.small_trees.specs.SmallTrees.{treeCount, sequenceAt, mostNodes}
-use Rattle.trees_of_dots.specs.Points.{Point, point, pointsOf}
-use Rattle.trees_of_dots.specs.TreesOfDots.{fits, dotsWrong}
+use Rattle.plots.specs.Points.{Point}
+use Rattle.plots.specs.Dots.{dotsWrong}
+use Rattle.trees_of_dots.specs.TreesOfDots.{fits}
 use Rattle.trees_of_dots.specs.declared.Fitting.{Fitting}
 use Rattle.trees_of_dots.specs.declared.Fitting.the-variants.{Trees, None}
 use Rattle.trees_of_dots.specs.declared.search.Tried.{Tried}
@@ -30,25 +31,11 @@ pub record Drawable (table : List ℕ) (dots : List ℤ) (D : ℕ) : Type 0 wher
   pub accepted : tableNumber table ≡ 0
   pub plot : Plot (nodes table) dots D
 
--- the points that levels and places by node number tell
-abbrev pub pointsAt : ℕ → List ℕ → List ℤ → List Point
-pointsAt n levels places = map (λ v. point (pos (getD levels v 0)) (getD places v (pos 0))) (upTo n)
-
--- ---- how many dots a level has
-
-abbrev pub levelsIn : List Point → List ℕ
-levelsIn points = map (λ (a : Point). natAbs (a .level)) points
-
--- for each level from 0 to 7, how many of the points stand on it
-pub record Profile (points : List Point) (profile : List ℕ) : Type 0 where
-  pub size : length profile ≡ 8
-  pub count-on : (l : ℕ) → l < 8 → getD profile l 0 ≡ count l (levelsIn points)
+-- ---- one place
 
 -- a sequence has more nodes on some level than the profile
 abbrev pub Exceeds : List ℕ → List ℕ → Type 0
 Exceeds profile s = (l : ℕ) × (l < 8) × (getD profile l 0 < count l s)
-
--- ---- one place
 
 -- a place of the list of as many nodes as there are levels, at most 8; and a profile
 pub record Descends (place : ℕ) (profile levels : List ℕ) : Type 0 where

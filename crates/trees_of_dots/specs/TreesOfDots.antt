@@ -1,19 +1,18 @@
 -- The trees of a list that fit the dots of a plot, the conditions 20, 22 and 6, and what the operation promises.
-use Prim.Native.Nat.{ℕ, suc, _*_, _≤_}
+use Prim.Native.Nat.{ℕ, suc, _≤_}
 use mathlib.Core.Path.{_≡_}
-use mathlib.Core.Bool.{Bool, true, false, cond, not, _&&_, _||_}
+use mathlib.Core.Bool.{Bool, true, false, cond}
 use mathlib.Core.List.{List, [], _∷_}
-use lib.Dec.{eqb}
-use lib.IntN.{ℤ, pos}
-use lib.Signed.{leZ}
+use lib.IntN.{ℤ}
 use lib.ListN.{length}
 use Rattle.refusal.specs.First.{Condition, _⇐_, first}
 use Rattle.refusal.specs.After.{granted}
 use Rattle.distance.specs.Needed.{badSeparation}
-use Rattle.tree.specs.Numbers.{upTo, any}
+use Rattle.tree.specs.Numbers.{upTo}
 use Rattle.tree.specs.Forest.{tableOf}
 use Rattle.small_trees.specs.SmallTrees.{treeCount, treeAt, mostNodes, sizeWrong}
-use Rattle.trees_of_dots.specs.Points.{Point, pointsOf, rises, tableFits}
+use Rattle.plots.specs.Points.{Point, pointsOf, tableFits}
+use Rattle.plots.specs.Dots.{dotsWrong}
 use Rattle.trees_of_dots.specs.declared.Fitting.{Fitting}
 use Rattle.trees_of_dots.specs.declared.Fitting.the-variants.{Trees, None}
 use Rattle.trees_of_dots.specs.declared.Found.{Found}
@@ -43,13 +42,7 @@ answerOf (p ∷ ps) = Trees p (suc (length ps))
 
 -- ---- the operation
 
-abbrev pub levelWrong : Point → Bool
-levelWrong a = not (leZ (pos 0) (a .level) && leZ (a .level) (pos 7))
-
--- 22: there are other than 2n entries, a level is outside 0 to 7, or the dots do not strictly rise by level and then place
-unfoldable pub dotsWrong : ℕ → List ℤ → Bool
-dotsWrong n dots = not (eqb (length dots) (2 * n)) || any levelWrong (pointsOf dots) || not (rises (pointsOf dots))
-
+-- 22 is `dotsWrong` of `plots`, 6 `badSeparation` of `distance`
 abbrev pub conditions : ℕ → List ℤ → ℕ → List Condition
 conditions n dots D = 20 ⇐ sizeWrong n ∷ 22 ⇐ dotsWrong n dots ∷ 6 ⇐ badSeparation D ∷ []
 

@@ -2,10 +2,9 @@
 ghost use mathlib.Core.Path.{_≡_};
 ghost use Rattle.trees_of_dots.specs.TreesOfDots.{refusal, TreesOfDots, valuesOf};
 
-mod dots;
 mod search;
 
-use dots::dots_wrong;
+use plots::dots_wrong;
 use search::search;
 
 // The trees that fit: the lowest place of one in the list of the trees of so many nodes, and how many there are; or none.

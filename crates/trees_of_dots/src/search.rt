@@ -1,20 +1,20 @@
 // The search: place by place of the list of trees, past those that have more nodes on a level than there are dots.
 ghost use mathlib.Core.Path.{_≡_};
 ghost use mathlib.Core.Bool.{true};
-ghost use Prim.Native.Nat.{_*_, _≤_, _<_};
+ghost use Prim.Native.Nat.{_*_, _<_};
 ghost use lib.ListN.{length};
 ghost use Rattle.tree.specs.Table as tables;
-ghost use Rattle.tree.specs.WellFormed.{tableNumber};
 ghost use Rattle.tree.specs.Forest.{tableOf};
 ghost use Rattle.small_trees.specs.Sequence.{isSequence, treeOfLevels};
 ghost use Rattle.small_trees.specs.SmallTrees.{treeCount};
-ghost use Rattle.small_trees.specs.Steps.{Ways, InList};
-ghost use Rattle.trees_of_dots.specs.Points.{pointsOf, tableFits};
+ghost use Rattle.small_trees.specs.Steps.{Ways};
+ghost use Rattle.plots.specs.Points.{pointsOf, tableFits};
+ghost use Rattle.plots.specs.Dots.{Profile};
 ghost use Rattle.trees_of_dots.specs.TreesOfDots.{fittingPlaces, answerOf};
-ghost use Rattle.trees_of_dots.specs.Steps.{Plot, Drawable, Profile, Descends, Descended, TriedAt, withPlace, countOf};
+ghost use Rattle.trees_of_dots.specs.Steps.{Plot, Drawable, Descends, Descended, TriedAt, withPlace, countOf};
 use super::Fitting;
-use super::dots::all_dots;
-use super::dots::profile_of;
+use plots::all_dots;
+use plots::profile_of;
 use small_trees::levels::WAYS;
 use small_trees::levels::choose;
 use small_trees::levels::ways;

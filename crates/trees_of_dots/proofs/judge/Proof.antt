@@ -6,11 +6,10 @@ use mathlib.Core.List.{List}
 use Prim.Native.Nat.{ℕ, _≤_}
 use native.Mathlib.Omega.{arith}
 use lib.IntN.{ℤ}
-use borrow.Author.Needs.{needs}
 use borrow.Author.Tests.{ltb-true, ltb-false}
 use Rattle.distance.proofs.Separation.{separation-bad, separation-good}
 use Rattle.small_trees.proofs.Numbers.{wrong-size}
-use Rattle.trees_of_dots.specs.TreesOfDots.{dotsWrong}
+use Rattle.plots.specs.Dots.{dotsWrong}
 use Rattle.trees_of_dots.proofs.Numbers.{number-20, number-22, number-6, number-0}
 use Rattle.trees_of_dots.proofs.judge.Statement.{statement}
 use Rattle.trees_of_dots.proofs.judge.Tie as tie

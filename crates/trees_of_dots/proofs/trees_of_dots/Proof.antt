@@ -5,7 +5,7 @@ use Prim.Native.Nat.{ℕ}
 use lib.IntN.{ℤ}
 use borrow.Author.Needs.{needs}
 use Rattle.refusal.proofs.After.{granted-accepted, granted-refused}
-use Rattle.trees_of_dots.specs.Points.{pointsOf}
+use Rattle.plots.specs.Points.{pointsOf}
 use Rattle.trees_of_dots.specs.TreesOfDots.{fittingPlaces, answerOf, refusal}
 use Rattle.trees_of_dots.specs.declared.Fitting.{Fitting}
 use Rattle.trees_of_dots.specs.declared.Fitting.the-variants.{None}

@@ -1,12 +1,10 @@
 -- The loop that stores the levels as long as the dots on each suffice. Assumes nothing.
-use mathlib.Core.Path.{_≡_, sym, ap, _∙_, subst⁻¹}
+use mathlib.Core.Path.{subst⁻¹}
 use mathlib.Core.List.{List}
-use Prim.Native.Nat.{ℕ, _+_, _-_, _≤_, _<_}
+use Prim.Native.Nat.{ℕ, _-_, _≤_, _<_}
 use native.Mathlib.Omega.{arith}
-use lib.ListN.{length, getD}
-use borrow.Author.Needs.{needs}
-use Rattle.small_trees.specs.SmallTrees.{further, mostNodes}
-use Rattle.small_trees.specs.Steps.{Chosen}
+use lib.ListN.{length}
+use Rattle.small_trees.specs.SmallTrees.{mostNodes}
 use Rattle.small_trees.specs.declared.levels.Branch.{Branch}
 use Rattle.trees_of_dots.specs.Steps.{Descended}
 use Rattle.trees_of_dots.proofs.Descent.{Descending, some-level, descend-start, descend-choice, level-small, ways-few, descend-next, descend-passed, descend-end}

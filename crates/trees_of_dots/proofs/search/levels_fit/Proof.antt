@@ -8,7 +8,7 @@ use lib.Seq.{length-take-le, take-at}
 use borrow.Author.Needs.{needs}
 use Rattle.tree.specs.Forest.{tableOf}
 use Rattle.small_trees.specs.Sequence.{treeOfLevels}
-use Rattle.trees_of_dots.specs.Points.{pointsOf, tableFits}
+use Rattle.plots.specs.Points.{pointsOf, tableFits}
 use Rattle.trees_of_dots.specs.Steps.{Drawable}
 use Rattle.trees_of_dots.proofs.Listed.{length-table, table-drawable}
 use Rattle.trees_of_dots.proofs.search.levels_fit.Statement.{statement}

@@ -1,14 +1,12 @@
 -- The loop over the places of the list. Assumes nothing.
-use mathlib.Core.Path.{_≡_, refl, sym, ap, _∙_, subst⁻¹}
+use mathlib.Core.Path.{_≡_, refl, sym, _∙_, subst⁻¹}
 use mathlib.Core.Logic.{⊎-elim}
-use mathlib.Core.List.{List}
-use Prim.Native.Nat.{ℕ, _+_, _-_, _≤_, _<_}
+use Prim.Native.Nat.{_+_, _-_}
 use native.Mathlib.Omega.{arith}
-use lib.IntN.{ℤ}
 use borrow.Author.Needs.{needs}
 use Rattle.small_trees.specs.SmallTrees.{further, treeCount}
 use Rattle.small_trees.proofs.Ways.{right-ways, count-ways}
-use Rattle.trees_of_dots.specs.Points.{pointsOf}
+use Rattle.plots.specs.Points.{pointsOf}
 use Rattle.trees_of_dots.specs.declared.Fitting.{Fitting}
 use Rattle.trees_of_dots.proofs.Searching.{Searched, search-start, found-few, search-found, search-missed, search-end}
 use Rattle.trees_of_dots.proofs.search.search.Statement.{statement}

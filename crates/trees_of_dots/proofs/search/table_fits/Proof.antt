@@ -1,17 +1,7 @@
 -- The layout, and each node's point looked for. Assumes nothing.
-use mathlib.Core.Path.{_≡_, sym, ap, _∙_}
-use mathlib.Core.List.{List}
-use Prim.Native.Nat.{ℕ, _<_}
-use native.Mathlib.Omega.{arith}
-use lib.IntN.{ℤ}
-use lib.ListN.{replicate, getD-replicate}
+use mathlib.Core.Path.{_∙_}
 use borrow.Author.Needs.{needs}
-use Rattle.distance.proofs.Separation.{good-separation}
-use Rattle.tree.specs.Table.{nodes}
-use Rattle.trees_of_dots.specs.Points.{Point, pointsOf, allAmong}
-use Rattle.trees_of_dots.proofs.Laid.{among-fits}
-use Rattle.trees_of_dots.proofs.Sound.{Sound, sound, points-length}
-use Rattle.trees_of_dots.proofs.Drawn.{drawn-points, lent-taken}
+use Rattle.trees_of_dots.proofs.Drawn.{drawn-fits}
 use Rattle.trees_of_dots.proofs.search.table_fits.Statement.{statement}
 use Rattle.trees_of_dots.proofs.search.table_fits.Tie as tie
 
@@ -45,16 +35,8 @@ all-dots-requires c κs = search needs
 returns : tie.Need-returns
 returns c =
     let s = c .before .before .before .before .before .before .before .before .before .before .before .before .before .before in
-    let t = s .args .table .now in
-    let dots = s .args .dots .now in
-    let D = s .args .separation in
-    let R = s .pre in
-    let S : Sound (nodes t) dots = sound (nodes t) dots (R .plot .right) in
-    let L = c .before .before .before .before .before .before .before .layout .ensures in
     c .all-dots .ensures
-    ∙ ap (allAmong (pointsOf dots))
-    (drawn-points t D (replicate 8 0) _ _ _ L (L .number ∙ lent-taken t dots D R) (λ v h. getD-replicate {A = ℕ} 8 v 0 0 (omega (arith, R .plot .few))))
-    ∙ among-fits D (good-separation D (R .plot .apart) .0) t (R .accepted) (pointsOf dots) (S .rise) (points-length (nodes t) dots (S .entries))
+    ∙ drawn-fits (s .args .table .now) (s .args .dots .now) (s .args .separation) (s .pre) _ _ (c .before .before .before .before .before .before .before .layout .ensures)
 
 pub table-fits-spec : {M : Type 1} → statement M
 table-fits-spec =

@@ -1,6 +1,6 @@
 -- The levels at the place, and where the dots on each level suffice whether their tree fits. Assumes nothing.
-use mathlib.Core.Path.{_≡_, refl, sym, ap, ap₂, _∙_, subst, subst⁻¹}
-use mathlib.Core.Bool.{true, false}
+use mathlib.Core.Path.{_≡_, sym, ap, _∙_, subst, subst⁻¹}
+use mathlib.Core.Bool.{false}
 use mathlib.Core.List.{List, _++_}
 use Prim.Native.Nat.{ℕ, _+_, _≤_, _<_}
 use native.Mathlib.Nat.{le-refl}
@@ -9,13 +9,12 @@ use lib.IntN.{ℤ}
 use lib.ListN.{length, take, drop, replicate, length-append}
 use lib.Seq.{length-take-le, take-at}
 use borrow.Author.Needs.{needs}
-use Rattle.tree.specs.Forest.{tableOf}
-use Rattle.small_trees.specs.Sequence.{isSequence, treeOfLevels}
-use Rattle.small_trees.specs.SmallTrees.{treeCount, sequenceAt, mostNodes}
+use Rattle.small_trees.specs.Sequence.{isSequence}
+use Rattle.small_trees.specs.SmallTrees.{treeCount, sequenceAt}
 use Rattle.small_trees.proofs.AllComplete.{at-sequence, at-length}
-use Rattle.trees_of_dots.specs.Points.{pointsOf, tableFits}
+use Rattle.plots.specs.Points.{pointsOf}
 use Rattle.trees_of_dots.specs.TreesOfDots.{fits}
-use Rattle.trees_of_dots.specs.Steps.{Plot, Profile, Descended}
+use Rattle.trees_of_dots.specs.Steps.{Plot, Descended}
 use Rattle.trees_of_dots.proofs.Listed.{fits-levels, exceeds-unfit}
 use Rattle.trees_of_dots.proofs.search.try_place.Statement.{statement}
 use Rattle.trees_of_dots.proofs.search.try_place.Tie as tie
