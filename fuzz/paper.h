@@ -1,4 +1,4 @@
-/* What the paper says of a table, a drawing, a sheet file, a Newick text and a view, computed
+/* What the paper says of a table, a drawing, a sheet file, a Newick text, a view and dots, computed
    plainly and from the paper alone. */
 
 #ifndef PAPER_H
@@ -60,5 +60,17 @@ struct judged {
 
 /* Where a view shows a node. The view is across, down and zoom, floats by their bits. */
 void judge_node(const uint64_t *view, uint16_t level, int32_t place, struct judged *judged);
+
+/* The dots of a small tree with half-widths 0, level then place, in rising order. */
+void draw_dots(const uint16_t *table, size_t nodes, int32_t separation, int32_t *dots);
+
+struct fitting {
+    unsigned number; /* the first of 20, 22 and 6 that holds, or 0 */
+    size_t lowest, count;
+};
+
+/* Which small trees have just these dots. */
+void fit_trees(size_t nodes, const int32_t *dots, size_t dots_len, size_t separation,
+               struct fitting *fitting);
 
 #endif

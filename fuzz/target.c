@@ -3,25 +3,30 @@
  * beside pages that cannot be accessed, and holds all that came of it against the paper. An input:
  *
  *     byte 0         the operation, modulo 8; 8 more for PLAIN; 16 more for a view, whatever the
- *                    operation; 32 more for a small tree, whatever the others
+ *                    operation; 32 more for a small tree, whatever the others; 64 more for dots,
+ *                    whatever the others
  *     byte 1         what is done to the rest, see the bits below
  *     bytes 2, 3     the separation, low byte first, as are all words
- *     bytes 4 to 8   for each slice besides the table, file or text, how many entries more than
- *                    needed, signed
+ *     bytes 4 to 8   for each slice besides the table, file, text or dots, how many entries more
+ *                    than needed, signed
  *     byte 9         the greatest half-width, or 0 for the greatest that is taken
  *     bytes 10 to 13 where a damage goes, and its word
  *     the rest       a table's words, or the bytes of a file or a Newick text; or, with TREE, one
  *                    byte for each node after the root, whose low half says how far it hangs above
  *                    the node before it; or a view's three floats, the level and the place; or a
- *                    small tree's count of nodes and its place, in words
+ *                    small tree's count of nodes and its place, in words; or a count of nodes, in a
+ *                    word, and the entries of dots
  *
  * The high half of the rest's byte r says how great the half-width of node r is. With TREE, the
  * lowest word of each of a view's centres says how far the node is from the middle, signed, and the
- * lowest byte of the zoom, modulo 8, which power of 2 eight times the zoom is; and a small tree's
- * count is taken modulo 10 and its place modulo 430.
+ * lowest byte of the zoom, modulo 8, which power of 2 eight times the zoom is; a small tree's count
+ * is taken modulo 10 and its place modulo 430; and dots are those of a small tree, its place modulo
+ * the length of its list, as many entries more than needed as byte 4 says, with the bytes that
+ * follow added to them, signed.
  */
 
 #include "hiwenoka.h"
+#include "../reference/c/dots.h"
 #include "../reference/c/lent.h"
 #include "../reference/c/random.h"
 #include "../reference/c/small_trees.h"
@@ -31,11 +36,12 @@
 
 enum {
     TREE = 1,         /* the rest is a well-formed tree, and a file or a text is of that tree; or a
-                         view with its middle near the node; or a small tree, or nearly one */
+                         view with its middle near the node; or a small tree, or nearly one, and
+                         dots are of that tree */
     TURNED = 2,       /* the tree's nodes but the root are numbered from the last */
     DAMAGED = 4,      /* an entry, a word of the file or of a float, or a byte of the text is
                          replaced */
-    CLOSED = 8,       /* then both sums of every block are made right */
+    CLOSED = 8,       /* then both sums of every block are made right, or dots put in order */
     AFTER_GUARD = 16, /* the slices start after a guarded page, and do not end at one */
     CUT = 32,         /* before any damage, a part of the tree is cut off as a stray */
     RING = 64,        /* with CUT: parts of it are joined to rings instead */
@@ -56,8 +62,10 @@ struct input {
 };
 
 /* How large a drawing is and what conflicts it has, for the fuzzer to keep what is new in either, as
-   small trees take every branch already. */
-__attribute__((section("__libfuzzer_extra_counters"))) static uint8_t drawn[3][12][12];
+   small trees take every branch already; and how many trees of how many nodes fit dots. */
+#define COUNTERS __attribute__((section("__libfuzzer_extra_counters"))) static uint8_t
+COUNTERS drawn[3][12][12];
+COUNTERS fitted[MOST_SMALL + 1][6];
 
 /* The count of binary digits. */
 static size_t digits(size_t number)
@@ -525,6 +533,56 @@ static void small_tree(const struct input *input)
     }
 }
 
+enum { MOST_DOTS = 512 };
+
+/* The dots of a small tree, its place being modulo the list's length. */
+static size_t dots_of_tree(const struct input *input, size_t nodes, size_t place, int32_t *dots)
+{
+    /* For a count that has no list, those of another. */
+    size_t count = nodes < 1 || nodes > MOST_SMALL ? MOST_SMALL : nodes;
+    int in_range = input->separation >= 1 && input->separation <= 1024;
+    memset(dots, 0, MOST_DOTS * sizeof *dots);
+    draw_dots(listed_tree(count, place % list_length(count)), count,
+              in_range ? input->separation : 1, dots);
+    for (size_t i = 0; i < 2 * count && 4 + i < input->rest_len; i++) {
+        dots[i] += (int8_t)input->rest[4 + i];
+    }
+    return length(input, 0, 2 * nodes);
+}
+
+static void trees_of_dots(const struct input *input)
+{
+    static int32_t entries[MOST_DOTS];
+    struct fitting fitting;
+    uint8_t bytes[4] = {0};
+    memcpy(bytes, input->rest, at_most(input->rest_len, sizeof bytes));
+    uint16_t nodes = get_word(bytes, 0, 0);
+    size_t len = input->rest_len < 2 ? 0 : at_most((input->rest_len - 2) / 4, MOST_DOTS);
+    if (input->bits & TREE) {
+        nodes %= MOST_SMALL + 2;
+        len = dots_of_tree(input, nodes, get_word(bytes, 0, 1), entries);
+    } else if (len > 0) {
+        memcpy(entries, input->rest + 2, 4 * len);
+    }
+    if ((input->bits & DAMAGED) && len > 0) {
+        entries[input->index % len] = (int16_t)input->word;
+    }
+    if (input->bits & CLOSED) {
+        sort_dots(entries, len / 2);
+    }
+    struct lent dots = lend_input(entries, 4 * len);
+    struct lent lowest = lend_output(2), count = lend_output(2);
+    unsigned number = hiwenoka_trees_of_dots(nodes, dots.start, len, input->separation,
+                                             lowest.start, count.start);
+    fit_trees(nodes, entries, len, input->separation, &fitting);
+    expect_number(&dots, number, fitting.number);
+    expect_word(&lowest, fitting.lowest);
+    expect_word(&count, fitting.count);
+    if (number == 0) {
+        fitted[nodes][at_most(fitting.count, 5)] = 1;
+    }
+}
+
 int LLVMFuzzerInitialize(int *count, char ***words)
 {
     (void)count;
@@ -588,7 +646,9 @@ int LLVMFuzzerTestOneInput(const uint8_t *data, size_t size)
        alone. */
     seed_random(input.separation + 65536 * (uint64_t)size);
     take_back(input.bits & AFTER_GUARD ? AT_START : AT_END);
-    if (data[0] / 32 % 2 == 1) {
+    if (data[0] / 64 % 2 == 1) {
+        trees_of_dots(&input);
+    } else if (data[0] / 32 % 2 == 1) {
         small_tree(&input);
     } else if (data[0] / 16 % 2 == 1) {
         on_screen(&input);

@@ -1,6 +1,6 @@
 /*
- * Copy sheets: tree tables, their layout, sheet files, Newick text, all small trees, and what a
- * screen shows.
+ * Copy sheets: tree tables, their layout, sheet files, Newick text, all small trees, the trees of
+ * dots, and what a screen shows.
  *
  * A slice is a pointer and its count of entries. The pointer is aligned and not null even where
  * the count is 0, and no slice or result overlaps another.
@@ -39,6 +39,8 @@
  *   19  a centre is no whole number, or a centre or the place is above 2097152 in size
  *   20  the count of nodes is not in 1 to 8
  *   21  the list of the trees of so many nodes has no such place
+ *   22  the slice of dots has other than two entries for each node, a level is not in 0 to 7, or
+ *       the dots do not strictly rise by level and then place
  *
  * A function tries its conditions in the order in which it names them.
  */
@@ -172,6 +174,18 @@ uint16_t hiwenoka_on_screen(double across, double down, double zoom,
  * 2 * nodes entries of table.
  */
 uint16_t hiwenoka_small_tree(uint16_t nodes, uint16_t place, uint16_t *table, size_t table_len);
+
+/*
+ * Finds the trees of 1 to 8 nodes whose layout has just these dots: 0, or 20, 22, and then 6. dots
+ * has a level and a place for each node, 2 * nodes entries, no more and no fewer: level by level
+ * from the top, left to right on each level, and no dot twice. A tree of the list of
+ * hiwenoka_small_tree fits if the levels and places that hiwenoka_layout gives its nodes, with this
+ * separation and with half-widths 0, are the dots. Writes the lowest place of a tree that fits to
+ * lowest and how many trees fit to count. A count of 0 means that none fits, and then lowest is 0
+ * too.
+ */
+uint16_t hiwenoka_trees_of_dots(uint16_t nodes, const int32_t *dots, size_t dots_len,
+                                uint16_t separation, uint16_t *lowest, uint16_t *count);
 
 #ifdef __cplusplus
 }

@@ -2,14 +2,14 @@
 # Counts instructions by callgrind: a node for the table operations, for the layout and for the
 # published pointer method (its baseline, which does not check the table), a byte for reading and
 # for writing a sheet file (a write checks the table too) and for reading a Newick text, a call for
-# judging a node on the screen and for writing a small tree. Only the calls themselves count. The part
-# `time` takes the time of a layout beside the pointer method's and, where Debian's node-d3-hierarchy
-# is installed, that of d3's tree. The part `listing` does both for the whole way from a sheet's bytes
-# to its listing; it needs the program `listing` too, from ../target/bin or the folder that
-# HIWENOKA_BIN_DIR names.
+# judging a node on the screen, for writing a small tree and for finding the trees of dots. Only the
+# calls themselves count. The part `time` takes the time of a layout beside the pointer method's and,
+# where Debian's node-d3-hierarchy is installed, that of d3's tree. The part `listing` does both for
+# the whole way from a sheet's bytes to its listing; it needs the program `listing` too, from
+# ../target/bin or the folder that HIWENOKA_BIN_DIR names.
 #
-# Usage: bench.sh [table] [sheet] [newick] [screen] [small_trees] [layout] [time] [listing]; all eight
-# if none is named.
+# Usage: bench.sh [table] [sheet] [newick] [screen] [small_trees] [trees_of_dots] [layout] [time]
+# [listing]; all nine if none is named.
 set -euo pipefail
 cd "$(dirname "$0")"
 
@@ -145,12 +145,32 @@ of_each_list() {
         }'
 }
 
+# most_and_least: of the calls for all trees of the greatest count of nodes, those that took most and
+# least, by how many dots are on each level from the top, and how many trees have as many.
+most_and_least() {
+    awk '
+        $3 > most { most = $3; split("", trees); split("", greatest); split("", least) }
+        $3 == most {
+            if (!($2 in trees) || $5 > greatest[$2]) greatest[$2] = $5
+            if (!($2 in trees) || $5 < least[$2]) least[$2] = $5
+            trees[$2]++
+        }
+        END {
+            for (levels in trees) {
+                if (!worst || greatest[levels] > greatest[worst]) worst = levels
+                if (!best || least[levels] < least[best]) best = levels
+            }
+            printf "%d nodes: at most %d, for levels of %s, as %d trees have; ", most, greatest[worst], worst, trees[worst]
+            printf "at least %d, for levels of %s, as %d have\n\n", least[best], best, trees[best]
+        }'
+}
+
 build() {
     cargo build --quiet --offline --release --features bench --bin "$1"
 }
 
 if [ $# -eq 0 ]; then
-    set -- table sheet newick screen small_trees layout time listing
+    set -- table sheet newick screen small_trees trees_of_dots layout time listing
 fi
 for part in "$@"; do
     case "$part" in
@@ -190,6 +210,20 @@ for part in "$@"; do
         measure bench_small_trees hiwenoka_small_tree trees | of_each_list | report "Written"
         measure bench_small_trees hiwenoka_small_tree places | report "Refused for the place, 21, and for the length of the table, 7"
         measure bench_small_trees hiwenoka_small_tree counts | report "Refused for the count of nodes, 20"
+        ;;
+    trees_of_dots)
+        build bench_trees_of_dots
+        echo "Trees of dots: instructions a call, by count of nodes"
+        for separation in 1 2 1024; do
+            measure bench_trees_of_dots hiwenoka_trees_of_dots "dots-$separation" >"$results/dots"
+            of_each_list <"$results/dots" | report "Dots of every tree, D = $separation"
+            most_and_least <"$results/dots"
+        done
+        measure bench_trees_of_dots hiwenoka_trees_of_dots none >"$results/dots"
+        of_each_list <"$results/dots" | report "The same with the last dot moved, D = 2: no tree fits"
+        most_and_least <"$results/dots"
+        measure bench_trees_of_dots hiwenoka_trees_of_dots refused | report "Refused for the count of nodes, 20, the length or a level, 22, and the separation, 6"
+        measure bench_trees_of_dots hiwenoka_trees_of_dots order | report "Refused for the order of the dots, 22"
         ;;
     layout)
         build bench_layout

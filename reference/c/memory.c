@@ -6,10 +6,11 @@
  *                                  then start right after one; inputs lie on read-only pages
  *     memory apart ROUNDS SEED     each slice is a block of its own, for valgrind's memcheck; what
  *                                  is to be written is not initialised
- *     memory stack                 what a call of read_newick takes of the stack
+ *     memory stack                 what calls of read_newick and of trees_of_dots take of the stack
  */
 
 #include "hiwenoka.h"
+#include "dots.h"
 #include "levels.h"
 #include "lent.h"
 #include "random.h"
@@ -33,19 +34,21 @@ enum operation {
     NEWICK,
     SCREEN,
     SMALL,
+    DOTS,
     OPERATIONS
 };
 
 static const char *const names[OPERATIONS]
-    = {"check_table", "layout",     "mirror",      "renumber",  "read_sheet",
-       "write_sheet", "list_sheet", "read_newick", "on_screen", "small_tree"};
+    = {"check_table", "layout",      "mirror",    "renumber",   "read_sheet",   "write_sheet",
+       "list_sheet",  "read_newick", "on_screen", "small_tree", "trees_of_dots"};
 
 /* The numbers that each operation can give, as bits. */
 static const unsigned possible[OPERATIONS]
-    = {0x403f, 0x241ff, 0x40bf, 0x40bf, 0x1e81, 0x260ff, 0x25ebd, 0x18081, 0xc0001, 0x300081};
+    = {0x403f,  0x241ff, 0x40bf,  0x40bf,   0x1e81,  0x260ff,
+       0x25ebd, 0x18081, 0xc0001, 0x300081, 0x500041};
 
 /* The number that a call must give is not known. */
-enum { ANY = 22 };
+enum { ANY = 23 };
 
 static unsigned long given[OPERATIONS][ANY];
 static enum placing placing;
@@ -293,6 +296,25 @@ static void small_tree(size_t nodes, size_t place, size_t len, unsigned wanted)
     } else {
         expect_written(&table, 0);
     }
+}
+
+/* The lowest place and how many trees fit. */
+struct fit {
+    uint16_t lowest, count;
+};
+
+static struct fit trees_of_dots(size_t nodes, const int32_t *entries, size_t len,
+                                uint16_t separation, unsigned wanted)
+{
+    take_back(placing);
+    struct lent dots = lend_input(entries, 4 * len);
+    struct lent lowest = lend_output(2), count = lend_output(2);
+    uint16_t number = hiwenoka_trees_of_dots((uint16_t)nodes, dots.start, len, separation,
+                                             lowest.start, count.start);
+    expect_number(DOTS, &dots, number, wanted);
+    expect_field(&lowest, number);
+    expect_field(&count, number);
+    return (struct fit){*(uint16_t *)lowest.start, *(uint16_t *)count.start};
 }
 
 /* Often a small one. */
@@ -543,6 +565,50 @@ static void small_trees(void)
     small_tree(other, below(2) == 0 ? place : past, lengths[below(5)], 20);
 }
 
+/* A length of other than two entries for each node, up to nine more. */
+static size_t wrong_length(size_t nodes)
+{
+    size_t len = below(2 * nodes + 9);
+    return len < 2 * nodes ? len : len + 1;
+}
+
+/* The dots of a tree of a list, found again, with the root elsewhere and with any dot elsewhere;
+   and dots, counts and separations that are refused. Where more than one thing is wrong, the first
+   decides. */
+static void plots(void)
+{
+    size_t nodes = 1 + below(MOST_SMALL), len = 2 * nodes, place = below(list_length(nodes));
+    size_t other = below(4) == 0 ? 0 : MOST_SMALL + 1 + below(below(2) == 0 ? 4 : 65527);
+    uint16_t separation = some_separation();
+    uint16_t any_separation = below(2) == 0 ? separation : wrong_separation();
+    int32_t dots[2 * MOST_SMALL + 9] = {0}, changed[2 * MOST_SMALL + 9];
+    lay_out_dots(nodes, place, separation, dots);
+    struct fit fit = trees_of_dots(nodes, dots, len, separation, 0);
+    expect(fit.count > 0 && fit.lowest <= place, "the tree is found again");
+    lay_out_dots(nodes, fit.lowest, separation, changed);
+    expect(memcmp(changed, dots, 4 * len) == 0, "the lowest has the same dots");
+    memcpy(changed, dots, sizeof dots);
+    changed[1] = below(2) == 0 ? 1 + (int32_t)below(INT32_MAX) : -1 - (int32_t)below(INT32_MAX);
+    fit = trees_of_dots(nodes, changed, len, separation, 0);
+    expect(fit.count == 0 && fit.lowest == 0, "no tree has its root elsewhere");
+    memcpy(changed, dots, sizeof dots);
+    changed[1 + 2 * below(nodes)] += below(2) == 0 ? 1 : -(int32_t)separation;
+    trees_of_dots(nodes, changed, len, separation, ANY);
+    trees_of_dots(nodes, dots, wrong_length(nodes), any_separation, 22);
+    memcpy(changed, dots, sizeof dots);
+    changed[2 * below(nodes)] = below(2) == 0 ? -1 - (int32_t)below(INT32_MAX)
+                                              : MOST_SMALL + (int32_t)below(INT32_MAX - MOST_SMALL);
+    trees_of_dots(nodes, changed, len, any_separation, 22);
+    if (nodes > 1) {
+        size_t later = 1 + below(nodes - 1);
+        memcpy(changed, dots, sizeof dots);
+        memcpy(changed + 2 * below(later), dots + 2 * later, 8);
+        trees_of_dots(nodes, changed, len, any_separation, 22);
+    }
+    trees_of_dots(nodes, dots, len, wrong_separation(), 6);
+    trees_of_dots(other, dots, below(2) == 0 ? len : wrong_length(nodes), any_separation, 20);
+}
+
 /* Small trees often, and those at the edges of a block and of the whole range. */
 static size_t some_size(void)
 {
@@ -572,6 +638,7 @@ static void one_round(uint64_t seed)
     texts(table, nodes);
     views();
     small_trees();
+    plots();
 }
 
 /* Every number that an operation can give must have been given, and no other. */

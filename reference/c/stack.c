@@ -1,8 +1,9 @@
 #define _DEFAULT_SOURCE
 #include "stack.h"
+#include "dots.h"
 #include "hiwenoka.h"
-#include "inputs.h"
 #include "lent.h"
+#include "small_trees.h"
 #include <stdio.h>
 #include <string.h>
 #include <sys/mman.h>
@@ -82,9 +83,8 @@ static size_t depth_of(void (*function)(void))
     return STACK - untouched;
 }
 
-void report_stack(void)
+static void report_texts(size_t outside)
 {
-    size_t outside = depth_of(no_call);
     for (size_t i = 0; i < sizeof texts / sizeof *texts; i++) {
         const struct text *text = &texts[i];
         len = 0;
@@ -100,4 +100,80 @@ void report_stack(void)
         printf("read_newick: %zu bytes of stack: %s, nodes %zu, bytes %zu: gave %u\n", used,
                text->name, text->nodes, len, number);
     }
+}
+
+/* The dots of one call. */
+static int32_t dots[2 * MOST_SMALL];
+static size_t dots_len;
+static uint16_t dots_nodes, separation, lowest, count;
+
+static void find(void)
+{
+    number = hiwenoka_trees_of_dots(dots_nodes, dots, dots_len, separation, &lowest, &count);
+}
+
+/* The bytes of a call that must give a number, and a tree that fits or none. */
+static size_t found(size_t outside, unsigned wanted, int fits)
+{
+    size_t used = depth_of(find) - outside;
+    expect(number == wanted && (count > 0) == fits, "dots are found, or refused");
+    return used;
+}
+
+static void take_dots(size_t nodes, size_t place, uint16_t distance)
+{
+    dots_nodes = (uint16_t)nodes;
+    dots_len = 2 * nodes;
+    separation = distance;
+    lay_out_dots(nodes, place, distance, dots);
+}
+
+static size_t report_trees(size_t outside, size_t nodes)
+{
+    size_t most = 0;
+    for (size_t place = 0; place < list_length(nodes); place++) {
+        take_dots(nodes, place, 2);
+        size_t used = found(outside, 0, 1);
+        most = used > most ? used : most;
+    }
+    printf("trees_of_dots: %zu bytes of stack at most: the dots of each tree, nodes %zu: gave 0\n",
+           most, nodes);
+    return most;
+}
+
+static void report_other(const char *name, size_t used, size_t most)
+{
+    expect(used <= most, "no dots are gone into farther than those of a tree");
+    printf("trees_of_dots: %zu bytes of stack: %s: gave %u\n", used, name, number);
+}
+
+static void report_dots(size_t outside)
+{
+    size_t most = 0;
+    for (size_t nodes = 1; nodes <= MOST_SMALL; nodes++) {
+        size_t used = report_trees(outside, nodes);
+        most = used > most ? used : most;
+    }
+    take_dots(MOST_SMALL, 0, 2);
+    dots[1] = 1;
+    report_other("dots of no tree", found(outside, 0, 0), most);
+    separation = 0;
+    report_other("a separation of 0", found(outside, 6, 0), most);
+    dots[1] = INT32_MIN;
+    dots[2] = 0;
+    dots[3] = INT32_MIN;
+    report_other("a dot twice", found(outside, 22, 0), most);
+    dots[0] = INT32_MIN;
+    report_other("a level below 0", found(outside, 22, 0), most);
+    dots_len = 0;
+    report_other("no dots", found(outside, 22, 0), most);
+    dots_nodes = 65535;
+    report_other("too many nodes", found(outside, 20, 0), most);
+}
+
+void report_stack(void)
+{
+    size_t outside = depth_of(no_call);
+    report_texts(outside);
+    report_dots(outside);
 }

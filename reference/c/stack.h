@@ -3,8 +3,9 @@
 #ifndef STACK_H
 #define STACK_H
 
-/* Prints, for the deepest and the broadest texts that read_newick accepts and refuses, its number
-   and the bytes of a small stack that the call has written to. */
+/* Prints the bytes of a small stack that calls have written to, and their numbers: of read_newick
+   for the deepest and the broadest texts that it accepts and refuses, of trees_of_dots for the dots
+   of all small trees, for dots of none and for those that it refuses. */
 void report_stack(void);
 
 #endif

@@ -98,6 +98,14 @@ mod raw {
             table: *mut u16,
             table_len: usize,
         ) -> u16;
+        pub fn hiwenoka_trees_of_dots(
+            nodes: u16,
+            dots: *const i32,
+            dots_len: usize,
+            separation: u16,
+            lowest: *mut u16,
+            count: *mut u16,
+        ) -> u16;
     }
 }
 
@@ -267,4 +275,18 @@ pub fn on_screen(view: View, level: u16, place: i32, on: &mut u8, x: &mut f64, y
 pub fn small_tree(nodes: u16, place: u16, table: &mut [u16]) -> u16 {
     // SAFETY: as in `check_table`.
     unsafe { raw::hiwenoka_small_tree(nodes, place, table.as_mut_ptr(), table.len()) }
+}
+
+#[inline]
+pub fn trees_of_dots(
+    nodes: u16,
+    dots: &[i32],
+    separation: u16,
+    lowest: &mut u16,
+    count: &mut u16,
+) -> u16 {
+    // SAFETY: as in `mirror`.
+    unsafe {
+        raw::hiwenoka_trees_of_dots(nodes, dots.as_ptr(), dots.len(), separation, lowest, count)
+    }
 }

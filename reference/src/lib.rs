@@ -24,3 +24,4 @@ pub mod sheet;
 pub mod small_trees;
 pub mod table;
 pub mod texts;
+pub mod trees_of_dots;

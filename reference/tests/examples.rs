@@ -2,8 +2,9 @@
 //! two that list a sheet as they are. The header is read by a C and a C++ compiler alone.
 
 use reference::run::say;
-use reference::small_trees;
+use reference::small_trees::{self, SmallTree};
 use reference::table::NONE;
+use reference::trees_of_dots::{Drawings, Found};
 use std::fs::File;
 use std::path::{Path, PathBuf};
 use std::process::{Command, Stdio};
@@ -51,6 +52,14 @@ const FAMILIES: &str = "\
 11: 1 - 2 - 3 4 - - - -
 12: 1 - 2 - 3 - - 4 - -
 13: 1 - 2 - 3 - 4 - - -
+";
+
+/// What the example of the trees of dots prints: of the two families that share the dots the first,
+/// whose levels are 0112221; and that none is left once a dot has moved.
+const FITTING: &str = "\
+2 fit
+21: 1 - - 2 3 6 - 4 - 5 - - - -
+0 fit
 ";
 
 fn root() -> PathBuf {
@@ -137,6 +146,8 @@ fn the_programs_in_c_build_and_print() {
     assert_eq!(printed, SHOWN);
     let printed = printed_by(&mut built("examples/small_trees.c", "gcc "));
     assert_eq!(printed, FAMILIES);
+    let printed = printed_by(&mut built("examples/trees_of_dots.c", "gcc "));
+    assert_eq!(printed, FITTING);
 }
 
 #[test]
@@ -151,20 +162,44 @@ fn the_programs_in_rust_build_and_print() {
     assert_eq!(printed, SHOWN);
     let printed = printed_by(&mut built("examples/small_trees.rs", "rustc "));
     assert_eq!(printed, FAMILIES);
+    let printed = printed_by(&mut built("examples/trees_of_dots.rs", "rustc "));
+    assert_eq!(printed, FITTING);
+}
+
+/// A family's place in its list and its table, as the examples print them.
+fn line_of(place: usize, tree: &SmallTree) -> String {
+    let entry = |&entry: &u16| match entry {
+        NONE => "-".to_string(),
+        node => node.to_string(),
+    };
+    let entries: Vec<String> = tree.table.iter().map(entry).collect();
+    format!("{place}: {}\n", entries.join(" "))
 }
 
 #[test]
 fn the_families_are_those_of_the_model() {
+    let list = small_trees::list(5);
+    let lines: Vec<String> = (0..)
+        .zip(&list)
+        .map(|(place, tree)| line_of(place, tree))
+        .collect();
+    assert_eq!(FAMILIES, lines.concat());
+}
+
+#[test]
+fn the_fitting_families_are_those_of_the_model() {
     let mut lines = String::new();
-    for (place, tree) in small_trees::list(5).iter().enumerate() {
-        let entry = |&entry: &u16| match entry {
-            NONE => "-".to_string(),
-            node => node.to_string(),
-        };
-        let entries: Vec<String> = tree.table.iter().map(entry).collect();
-        lines += &format!("{place}: {}\n", entries.join(" "));
+    let mut dots = [0, 0, 1, -2, 1, 0, 1, 2, 2, -2, 2, 0, 2, 2];
+    for place in [2, 3] {
+        dots[13] = place;
+        let Found { lowest, count, .. } = Drawings::new().trees_of_dots(7, &dots, 2);
+        lines += &format!("{count} fit\n");
+        if count > 0 {
+            let lowest = usize::from(lowest);
+            lines += &line_of(lowest, &small_trees::list(7)[lowest]);
+        }
     }
-    assert_eq!(FAMILIES, lines);
+    assert_eq!(FITTING, lines);
 }
 
 #[test]
