@@ -25,10 +25,10 @@ use Rattle.tree.proofs.Joined.{length-levels}
 use Rattle.rule.specs.Result.{place}
 use Rattle.rule.proofs.Signed.{Under, at-most, parts-add}
 use Rattle.rule.proofs.ReadingOrder.{Pairwise, pairwise-append, LeftBy, Apart, rising, neighbours-at-least}
-use Rattle.plots.specs.Points.{Point, point, allAmong, sameSet, apart, nodePoint, laidOut, inReadingOrder, tableFits}
+use Rattle.plots.specs.Points.{Point, point, allAmong, sameSet, apart, nodePoint, laidOut, inReadingOrder, tableFits, SameSet}
 use Rattle.plots.specs.Dots.{levelsIn}
 use Rattle.plots.proofs.Order.{Before}
-use Rattle.plots.proofs.Sets.{SameSet, set-same, same-set, all-within, within-all, within-equal}
+use Rattle.plots.proofs.Sets.{set-same, same-set, all-within, within-all, within-equal}
 
 -- ---- the points of a list of nodes
 

@@ -9,12 +9,8 @@ use lib.ListN.{length}
 use Rattle.refusal.proofs.Truth.{true-or-false, and-left, and-right, or-true}
 use Rattle.tree.proofs.Counting.{All}
 use Rattle.rule.proofs.ReadingOrder.{Pairwise}
-use Rattle.plots.specs.Points.{Point, samePoint, isAmong, allAmong, sameSet}
+use Rattle.plots.specs.Points.{Point, samePoint, isAmong, allAmong, sameSet, Within, SameSet}
 use Rattle.plots.proofs.Order.{and-true-both, same-point, point-same, Before, never-itself, before-further}
-
--- every point of the one list is in the other
-abbrev pub Within : List Point → List Point → Type 0
-Within ps qs = (a : Point) → List·Memᴰ a ps → List·Memᴰ a qs
 
 -- ---- the tests
 
@@ -40,11 +36,6 @@ pub within-all : (qs ps : List Point) → Within ps qs → allAmong qs ps ≡ tr
 within-all qs [] h = refl
 within-all qs (b ∷ ps) h =
     and-true-both (member-among qs b (h b (List·Memᴰ·head refl))) (within-all qs ps (λ a m. h a (List·Memᴰ·tail m)))
-
--- two lists have the same points
-pub record SameSet (ps qs : List Point) : Type 0 where
-  pub there : Within ps qs
-  pub back : Within qs ps
 
 module _ (ps qs : List Point) where
   pub set-same : sameSet ps qs ≡ true → SameSet ps qs

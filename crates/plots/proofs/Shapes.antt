@@ -28,10 +28,10 @@ use Rattle.rule.specs.Result.{place}
 use Rattle.rule.proofs.Extremes.{root-place}
 use Rattle.rule.proofs.Promises.{DrawnEqually, shapes-equal, neighbours-count}
 use Rattle.rule.proofs.ReadingOrder.{Pairwise}
-use Rattle.plots.specs.Points.{Point, point, pointsOf, entriesOf, sameSet, apart, nodePoint, laidOut, inReadingOrder, plotOf, tableFits}
+use Rattle.plots.specs.Points.{Point, point, pointsOf, entriesOf, sameSet, apart, nodePoint, laidOut, inReadingOrder, plotOf, tableFits, SameSet}
 use Rattle.plots.specs.Dots.{dotsWrong}
 use Rattle.plots.proofs.Order.{Before}
-use Rattle.plots.proofs.Sets.{SameSet, set-same, same-set}
+use Rattle.plots.proofs.Sets.{set-same, same-set}
 use Rattle.plots.proofs.Laid.{mapped-member, member-mapped, reading-rises, length-reading, reading-laid}
 use Rattle.plots.proofs.Sound.{OnLevel, sound-right}
 

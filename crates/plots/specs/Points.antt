@@ -1,7 +1,7 @@
 -- The dots of a plot, and those of a tree's layout. A dot is a point: a level and a place.
 use Prim.Native.Nat.{ℕ}
 use mathlib.Core.Bool.{Bool, true, false, _&&_, _||_}
-use mathlib.Core.List.{List, [], _∷_, map}
+use mathlib.Core.List.{List, [], _∷_, map, List·Memᴰ}
 use lib.Dec.{eqb}
 use lib.IntN.{ℤ, pos, negsuc}
 use lib.Signed.{ltZ}
@@ -67,6 +67,14 @@ allAmong points (a ∷ others) = isAmong points a && allAmong points others
 unfoldable pub sameSet : List Point → List Point → Bool
 sameSet ps qs = allAmong qs ps && allAmong ps qs
 
+-- the same in words (`set-same` and `same-set` of proofs/Sets.antt)
+abbrev pub Within : List Point → List Point → Type 0
+Within ps qs = (a : Point) → List·Memᴰ a ps → List·Memᴰ a qs
+
+pub record SameSet (ps qs : List Point) : Type 0 where
+  pub there : Within ps qs
+  pub back : Within qs ps
+
 -- ---- of a layout
 
 -- with half-widths 0, any two neighbours need the separation alone
@@ -81,11 +89,11 @@ nodePoint D t v = point (pos (level t v)) (place (apart D) t v)
 unfoldable pub laidOut : ℕ → List ℕ → List Point
 laidOut D t = map (nodePoint D t) (upTo (nodes t))
 
--- The same level by level from the top and left to right on each level, as a slice: the dots of the table's plot. They rise (`plot-taken` of
--- proofs/Plots.antt).
+-- the same level by level from the top and left to right on each level: so they rise (`reading-rises` of proofs/Laid.antt)
 unfoldable pub inReadingOrder : ℕ → List ℕ → List Point
 inReadingOrder D t = map (nodePoint D t) (together (levels (treeOf t)))
 
+-- as a slice: the dots of the table's plot
 unfoldable pub plotOf : ℕ → List ℕ → List ℤ
 unfolding inReadingOrder
 plotOf D t = entriesOf (inReadingOrder D t)

@@ -37,6 +37,7 @@ pub fn dots_wrong(nodes: usize, dots: &[i32]) -> bool
     if dots.len() != 2 * nodes {
         return true;
     }
+    // Every dot on a level from 0 on comes after this.
     let mut level: i32 = -1;
     let mut place: i32 = 0;
     let mut i: usize = 0;
@@ -75,9 +76,9 @@ fn has_dot(dots: &[i32], level: i32, place: i32) -> bool
 {
     let mut i: usize = 0;
     while i + 1 < dots.len() {
-        let l = dots[i];
-        let x = dots[i + 1];
-        if same_point(level, place, l, x) {
+        let other = dots[i];
+        let at = dots[i + 1];
+        if same_point(level, place, other, at) {
             return true;
         }
         i += 2;

@@ -21,15 +21,15 @@ use Rattle.rule.specs.Result.{Slices, Answer, Layout}
 use Rattle.layout.proofs.Answers.{taken}
 use Rattle.layout.proofs.Returned as layout
 use Rattle.small_trees.specs.SmallTrees.{treeCount, treeAt, mostNodes}
-use Rattle.plots.specs.Points.{Point, pointsOf, laidOut, plotOf, tableFits}
+use Rattle.plots.specs.Points.{Point, pointsOf, SameSet, laidOut, plotOf, tableFits}
 use Rattle.plots.specs.Dots.{dotsWrong, pointsAt}
-use Rattle.trees_of_dots.specs.TreesOfDots.{fits, those, fittingPlaces, answerOf, refusal, Says, answer, TreesOfDots, valuesOf, TreesOfDotsValues}
+use Rattle.trees_of_dots.specs.TreesOfDots.{fits, those, fittingPlaces, answerOf, refusal, Says, answer, TreesOfDots, valuesOf, TreesOfDotsValues, FoundAgain}
 use Rattle.trees_of_dots.specs.Steps.{Plot}
 use Rattle.trees_of_dots.specs.declared.Fitting.{Fitting}
 use Rattle.trees_of_dots.specs.declared.Fitting.the-variants.{Trees, None}
 use Rattle.trees_of_dots.specs.declared.Found.{Found}
 use Rattle.trees_of_dots.specs.declared.Values.{Values}
-use Rattle.plots.proofs.Sets.{SameSet, set-same, same-set}
+use Rattle.plots.proofs.Sets.{set-same, same-set}
 use Rattle.trees_of_dots.proofs.Numbers.{number-0, accepted, number-says}
 use Rattle.trees_of_dots.proofs.Drawn.{drawn-points}
 use Rattle.trees_of_dots.proofs.Listed.{at-accepted, at-nodes}
@@ -167,14 +167,6 @@ module _ (n : ℕ) (dots : List ℤ) (D : ℕ) (v : Values) (call : TreesOfDotsV
         (some, ⊎-elim (λ k. absurd (true≢false (sym here ∙ lowest-returned some .2 p (k .0)))) (λ k. k .0) (below-or-not p (v .lowest)))
 
 -- ---- a layout that is handed back as dots
-
--- the call finds the table's tree: it is among those that fit
-pub record FoundAgain (n D : ℕ) (dots : List ℤ) (place : ℕ) (v : Values) : Type 0 where
-  pub number : v .number ≡ 0
-  pub within : place < treeCount n
-  pub here : fits n D (pointsOf dots) place ≡ true
-  pub counted : 1 ≤ v .count
-  pub lowest : v .lowest ≤ place
 
 module _ (D : ℕ) (some : 1 ≤ D) (small : D ≤ 1024) (t : List ℕ) (e : tableNumber t ≡ 0) (few : nodes t ≤ mostNodes) where
   -- from any dots that are right and have the layout's points as a set,

@@ -1,5 +1,5 @@
 -- The trees of a list that fit the dots of a plot, the conditions 20, 22 and 6, and what the operation promises.
-use Prim.Native.Nat.{ℕ, suc, _≤_}
+use Prim.Native.Nat.{ℕ, suc, _≤_, _<_}
 use mathlib.Core.Path.{_≡_}
 use mathlib.Core.Bool.{Bool, true, false, cond}
 use mathlib.Core.List.{List, [], _∷_}
@@ -74,3 +74,11 @@ valuesOf number None = record { number = number; lowest = 0; count = 0 }
 -- what a call gives, in these
 pub record TreesOfDotsValues (n : ℕ) (dots : List ℤ) (D : ℕ) (v : Values) : Type 0 where
   pub values : v ≡ valuesOf (refusal n dots D) (answer n dots D)
+
+-- of a call that is given a tree's layout as dots: it finds the tree at that place of the list among those that fit
+pub record FoundAgain (n D : ℕ) (dots : List ℤ) (place : ℕ) (v : Values) : Type 0 where
+  pub number : v .number ≡ 0
+  pub within : place < treeCount n
+  pub here : fits n D (pointsOf dots) place ≡ true
+  pub counted : 1 ≤ v .count
+  pub lowest : v .lowest ≤ place

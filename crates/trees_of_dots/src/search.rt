@@ -3,7 +3,6 @@ ghost use mathlib.Core.Path.{_≡_};
 ghost use mathlib.Core.Bool.{true};
 ghost use Prim.Native.Nat.{_*_, _<_};
 ghost use lib.ListN.{length};
-ghost use Rattle.tree.specs.Table as tables;
 ghost use Rattle.tree.specs.Forest.{tableOf};
 ghost use Rattle.small_trees.specs.Sequence.{isSequence, treeOfLevels};
 ghost use Rattle.small_trees.specs.SmallTrees.{treeCount};

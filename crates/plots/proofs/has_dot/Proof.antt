@@ -28,20 +28,20 @@ loop-holds c = (omega arith, refl)
 add-loop : tie.Need-add-loop Inv-loop μ-loop
 add-loop c = search needs
 
-mul-l : tie.Need-mul-l Inv-loop μ-loop
-mul-l c = search needs
+mul-other : tie.Need-mul-other Inv-loop μ-loop
+mul-other c = search needs
 
-shared-slice-copy-out-l : tie.Need-shared-slice-copy-out-l Inv-loop μ-loop
-shared-slice-copy-out-l c = search needs
+shared-slice-copy-out-other : tie.Need-shared-slice-copy-out-other Inv-loop μ-loop
+shared-slice-copy-out-other c = search needs
 
-add-x : tie.Need-add-x Inv-loop μ-loop
-add-x c = search needs
+add-at : tie.Need-add-at Inv-loop μ-loop
+add-at c = search needs
 
-mul-x : tie.Need-mul-x Inv-loop μ-loop
-mul-x c = search needs
+mul-at : tie.Need-mul-at Inv-loop μ-loop
+mul-at c = search needs
 
-shared-slice-copy-out-x : tie.Need-shared-slice-copy-out-x Inv-loop μ-loop
-shared-slice-copy-out-x c = search needs
+shared-slice-copy-out-at : tie.Need-shared-slice-copy-out-at Inv-loop μ-loop
+shared-slice-copy-out-at c = search needs
 
 same-point-requires : tie.Need-same-point-requires Inv-loop μ-loop
 same-point-requires c κs = search needs
@@ -69,7 +69,7 @@ module _ (c : tie.After-same-point Inv-loop μ-loop) where
   compared =
       c .same-point .ensures
       ∙ ap (samePoint (sought (head .before)))
-      (read-back (getD dots i (pos 0)) (getD dots (i + 1) (pos 0)) (record { sfits = c .before .before .l .given }) (record { sfits = c .before .x .given }))
+      (read-back (getD dots i (pos 0)) (getD dots (i + 1) (pos 0)) (record { sfits = c .before .before .other .given }) (record { sfits = c .before .at .given }))
 
   whole : isAmong (pointsOf dots) (sought (head .before)) ≡ (c .same-point .result || isAmong (pointsOf (drop (i + 2) dots)) (sought (head .before)))
   whole =
@@ -114,11 +114,11 @@ has-dot-spec =
     μ-loop
     loop-holds
     add-loop
-    mul-l
-    shared-slice-copy-out-l
-    add-x
-    mul-x
-    shared-slice-copy-out-x
+    mul-other
+    shared-slice-copy-out-other
+    add-at
+    mul-at
+    shared-slice-copy-out-at
     same-point-requires
     returns
     add-i
