@@ -1,10 +1,10 @@
 -- The layout of a table by the operation, with half-widths 0, is that of the written rule with the separation alone. Assumes nothing.
-use mathlib.Core.Path.{_≡_, refl, sym, ap, ap₂, _∙_}
-use mathlib.Core.List.{List, [], _∷_, _++_, map, map-append}
-use Prim.Native.Nat.{ℕ, zero, suc, _<_}
+use mathlib.Core.Path.{_≡_, sym, ap, ap₂, _∙_}
+use mathlib.Core.List.{List, map}
+use Prim.Native.Nat.{ℕ, _<_}
 use native.Mathlib.Omega.{arith}
 use lib.IntN.{ℤ, pos}
-use lib.ListN.{replicate, getD-replicate}
+use lib.ListN.{replicate, getD-replicate, length-map}
 use Rattle.distance.specs.Needed.{halfWidth}
 use Rattle.distance.proofs.Separation.{good-separation}
 use Rattle.distance.proofs.HalfWidths.{narrow-good}
@@ -14,6 +14,7 @@ use Rattle.tree.specs.Levels.{together}
 use Rattle.rule.specs.Drawing.{Dot}
 use Rattle.rule.specs.Result.{Slices, Answer, Layout, layoutNumber, placeIn, place}
 use Rattle.rule.proofs.Own.{no-widths}
+use Rattle.second_walk.proofs.EntryForEach.{length-upTo, map-upTo, told-by-entries}
 use Rattle.layout.specs.Operation.{slices}
 use Rattle.layout.proofs.Answers.{results-long, work-long, number-0}
 use Rattle.layout.proofs.Returned.{accepted, placeOf, levelOf, place-returned, level-returned}
@@ -23,21 +24,17 @@ use Rattle.plots.proofs.Laid.{among-fits}
 use Rattle.plots.proofs.Sound.{sound, points-length}
 use Rattle.trees_of_dots.specs.Steps.{Drawable}
 
-map-below : (f g : ℕ → Point) (n : ℕ) → ((v : ℕ) → v < n → f v ≡ g v) → map f (upTo n) ≡ map g (upTo n)
-map-below f g zero h = refl
-map-below f g (suc n) h =
-    map-append f (upTo n) (n ∷ [])
-    ∙ ap₂ (λ (l : List Point) (a : Point). l ++ a ∷ []) (map-below f g n (λ v k. h v (omega arith))) (h n (omega arith))
-    ∙ sym (map-append g (upTo n) (n ∷ []))
-
 -- what an accepted call leaves, where no node has a half-width above 0
 pub drawn-points : (t : List ℕ) (D : ℕ) (hs : List ℕ) (s : Slices) (a : Answer) (u : Slices) → Layout t D hs s a u → a .number ≡ 0
     → ((v : ℕ) → v < nodes t → halfWidth hs v ≡ 0) → pointsAt (nodes t) (u .levels) (u .places) ≡ laidOut D t
 unfolding laidOut place
 drawn-points t D hs s a u L ok none =
-    map-below (λ v. point (pos (levelOf t D hs s a u L ok v)) (placeOf t D hs s a u L ok v)) (nodePoint D t) (nodes t)
+    let read : ℕ → Point = λ v. point (pos (levelOf t D hs s a u L ok v)) (placeOf t D hs s a u L ok v) in
+    let root = point (pos 0) (pos 0) in
+    told-by-entries (nodePoint D t) root (nodes t) (map read (upTo (nodes t))) (length-map (upTo (nodes t)) read ∙ length-upTo (nodes t))
     (λ v h.
-    ap₂ point (ap pos (level-returned t D hs s a u L ok v h))
+    map-upTo read root (nodes t) v h
+    ∙ ap₂ point (ap pos (level-returned t D hs s a u L ok v h))
     (place-returned t D hs s a u L ok v h ∙ ap (λ (ls : List (List Dot)). placeIn (together ls) v) (no-widths t (accepted t D hs s a u L ok) D hs none)))
 
 -- the slices of eight nodes
