@@ -2,23 +2,25 @@
 -- level than there are dots does not fit. Assumes nothing.
 use mathlib.Core.Path.{_≡_, sym, ap, _∙_, subst⁻¹}
 use mathlib.Core.Logic.{⊎-elim}
-use mathlib.Core.Bool.{true, false}
-use mathlib.Core.List.{List}
+use mathlib.Core.Bool.{true, false, false≢true}
+use mathlib.Core.List.{List, [], _∷_}
 use Prim.Native.Nat.{ℕ, _*_, _≤_, _<_}
 use native.Mathlib.Omega.{arith}
 use lib.IntN.{ℤ}
-use lib.ListN.{length}
+use lib.ListN.{length, getD}
 use Rattle.refusal.proofs.Truth.{true-or-false}
 use Rattle.distance.proofs.Separation.{good-separation}
 use Rattle.tree.specs.Numbers.{count}
 use Rattle.tree.specs.Table.{nodes}
 use Rattle.tree.specs.Forest.{tableOf}
 use Rattle.tree.specs.WellFormed.{tableNumber}
+use Rattle.tree.proofs.Counting.{is-same}
 use Rattle.tree.proofs.Stands.{Numbers}
 use Rattle.tree.proofs.TableOf.{tableOf-accepted, tableOf-tree, nodes-tableOf, length-tableOf}
 use Rattle.small_trees.specs.Sequence.{levelSequence, levelsFrom, isSequence, treeOfLevels}
 use Rattle.small_trees.specs.SmallTrees.{treeCount, sequenceAt, treeAt, mostNodes}
-use Rattle.small_trees.proofs.AllComplete.{at-length, at-levels}
+use Rattle.small_trees.proofs.Trees.{sequence-first}
+use Rattle.small_trees.proofs.AllComplete.{at-sequence, at-length, at-levels}
 use Rattle.small_trees.proofs.Answer.{at-numbers}
 use Rattle.small_trees.proofs.Rows.{tree-of-numbers}
 use Rattle.small_trees.proofs.Tables.{sequence-table}
@@ -46,6 +48,12 @@ module _ (levels : List ℕ) (ok : isSequence levels ≡ true) (few : length lev
       }
 
 -- ---- the table at a place
+
+-- a sequence has its root on level 0
+rooted : (s : List ℕ) → isSequence s ≡ true → 1 ≤ count 0 s
+unfolding isSequence
+rooted [] e = absurd (false≢true e)
+rooted (l ∷ ls) e = omega (arith, is-same 0 l (sym (sequence-first l ls e .0)))
 
 module _ (n place : ℕ) (few : n ≤ mostNodes) (within : place < treeCount n) where
   abbrev pub tableAt : List ℕ
@@ -91,3 +99,7 @@ module _ (n place : ℕ) (few : n ≤ mostNodes) (within : place < treeCount n) 
               reading-levels D some tableAt at-accepted l,
               ap (count l) at-sequence-levels,
             )
+
+    -- nor where there is no dot for the root
+    pub rootless-unfit : getD profile 0 0 ≡ 0 → fits n D (pointsOf dots) place ≡ false
+    rootless-unfit none = exceeds-unfit (0, omega arith, omega (arith, rooted (sequenceAt n place) (at-sequence n place within)))

@@ -2,7 +2,7 @@
 use mathlib.Core.Path.{_≡_, refl, sym, ap, _∙_}
 use mathlib.Core.Bool.{Bool, true, false, cond}
 use mathlib.Core.List.{List, [], _∷_, _++_, append-nil}
-use Prim.Native.Nat.{ℕ, suc, _+_, _≤_}
+use Prim.Native.Nat.{ℕ, suc, _+_, _≤_, _<_}
 use native.Mathlib.Omega.{arith}
 use lib.ListN.{length, length-append}
 use Rattle.tree.specs.Numbers.{upTo}
@@ -14,7 +14,7 @@ use Rattle.trees_of_dots.specs.Steps.{TriedAt, withPlace, countOf}
 use Rattle.trees_of_dots.specs.declared.Fitting.{Fitting}
 use Rattle.trees_of_dots.specs.declared.Fitting.the-variants.{Trees, None}
 use Rattle.trees_of_dots.specs.declared.search.Tried.{Tried}
-use Rattle.trees_of_dots.proofs.Those.{those-few, those-onward}
+use Rattle.trees_of_dots.proofs.Those.{those-few, those-onward, none-those}
 
 -- ---- the answer
 
@@ -37,6 +37,10 @@ pub record Searched (n D : ℕ) (points : List Point) (found : Fitting) (place :
 module _ (n D : ℕ) (points : List Point) where
   pub search-start : Searched n D points None 0
   search-start = record { within = omega arith; so-far = refl }
+
+  pub search-none : ((q : ℕ) → q < treeCount n → fits n D points q ≡ false) → None ≡ answerOf (fittingPlaces n D points)
+  unfolding fittingPlaces
+  search-none none = sym (ap answerOf (none-those (fits n D points) (treeCount n) none))
 
   module _ (found : Fitting) (place : ℕ) (S : Searched n D points found place) where
     -- no more were found than tried

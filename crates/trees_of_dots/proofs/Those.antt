@@ -1,5 +1,5 @@
 -- The numbers of a list that pass a test. Assumes nothing.
-use mathlib.Core.Path.{_≡_, refl, sym, ap, _∙_}
+use mathlib.Core.Path.{_≡_, refl, sym, ap, ap₂, _∙_}
 use mathlib.Core.Logic.{⊎-elim}
 use mathlib.Core.Bool.{Bool, true, false, cond, true≢false}
 use mathlib.Core.List.{List, [], _∷_, _++_, append-nil}
@@ -40,6 +40,13 @@ module _ (test : ℕ → Bool) where
       ∙ ap (λ (b : Bool). those test (upTo (p + suc s)) ++ cond b ((p + suc s) ∷ []) []) (none (p + suc s) (omega arith) (omega arith))
       ∙ append-nil (those test (upTo (p + suc s)))
       ∙ those-onward p (suc s) (omega arith) (λ q h k. none q h (omega arith))
+
+  -- where none passes, there are none
+  pub none-those : (m : ℕ) → ((q : ℕ) → q < m → test q ≡ false) → those test (upTo m) ≡ []
+  none-those zero none = refl
+  none-those (suc m) none =
+      those-append (upTo m) (m ∷ [])
+      ∙ ap₂ (λ (l : List ℕ) (b : Bool). l ++ cond b (m ∷ []) []) (none-those m (λ q h. none q (omega arith))) (none m (omega arith))
 
   -- the first of a run that passes; or none does
   pub those-first : (k m x : ℕ) (xs : List ℕ) → those test (run k m) ≡ x ∷ xs

@@ -133,13 +133,16 @@ fn with_place(found: Fitting, place: u16) -> Fitting
     }
 }
 
-// The trees that fit, from the first place of the list to the last.
+// The trees that fit, from the first place of the list to the last. Without a dot for the root there is none.
 pub fn search(nodes: usize, dots: &[i32], separation: u16) -> Fitting
     requires { ⌜ Plot nodes (now dots) separation ⌝ }
     ensures { λ r. ⌜ r ≡ answerOf (fittingPlaces nodes separation (pointsOf (now (dots .entry)))) ⌝ }
 {
-    let counts = WAYS;
     let profile = profile_of(nodes, dots);
+    if profile[0] == 0 {
+        return Fitting::None;
+    }
+    let counts = WAYS;
     let places = ways(&counts, nodes - 1, 0);
     let mut found = Fitting::None;
     let mut place: u16 = 0;
