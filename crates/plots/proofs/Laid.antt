@@ -1,6 +1,6 @@
 -- The layout of an accepted table as points. Read level by level from the top and left to right, they rise; so the layout's set of points is
 -- that of a rising list in one case alone, and then it has as many points on each level as the tree has nodes. Assumes nothing.
-use mathlib.Core.Path.{_≡_, refl, sym, ap, _∙_, subst}
+use mathlib.Core.Path.{_≡_, refl, sym, ap, _∙_, subst, subst⁻¹}
 use mathlib.Core.Logic.{inl, inr, ⊎-elim}
 use mathlib.Core.Bool.{Bool, true, _&&_}
 use mathlib.Core.List.{List, [], _∷_, map, map-append, map-map, List·Memᴰ, List·Memᴰ·head, List·Memᴰ·tail, List·Memᴰ·not-nil, List·Memᴰ·cases-cons}
@@ -25,7 +25,7 @@ use Rattle.tree.proofs.Joined.{length-levels}
 use Rattle.rule.specs.Result.{place}
 use Rattle.rule.proofs.Signed.{Under, at-most, parts-add}
 use Rattle.rule.proofs.ReadingOrder.{Pairwise, pairwise-append, LeftBy, Apart, rising, neighbours-at-least}
-use Rattle.plots.specs.Points.{Point, point, allAmong, sameSet, apart, nodePoint, laidOut, inReadingOrder, tableFits, SameSet}
+use Rattle.plots.specs.Points.{Point, point, allAmong, sameSet, apart, nodePoint, laidOut, inReadingOrder, tableFits, Within, SameSet}
 use Rattle.plots.specs.Dots.{levelsIn}
 use Rattle.plots.proofs.Order.{Before}
 use Rattle.plots.proofs.Sets.{set-same, same-set, all-within, within-all, within-equal}
@@ -33,15 +33,30 @@ use Rattle.plots.proofs.Sets.{set-same, same-set, all-within, within-al
 -- ---- the points of a list of nodes
 
 module _ (f : ℕ → Point) where
-  pub mapped-member : (l : List ℕ) (a : Point) → List·Memᴰ a (map f l) → (v : ℕ) × (1 ≤ count v l) × (a ≡ f v)
+  mapped-member : (l : List ℕ) (a : Point) → List·Memᴰ a (map f l) → (v : ℕ) × (1 ≤ count v l) × (a ≡ f v)
   mapped-member [] a m = absurd (List·Memᴰ·not-nil m)
   mapped-member (x ∷ l) a m =
       ⊎-elim (λ e. (x, omega (arith, is-same x x refl), e))
       (λ k. let r = mapped-member l a k in (r .0, omega (arith, r .1), r .2)) (List·Memᴰ·cases-cons m)
 
-  pub member-mapped : (l : List ℕ) (v : ℕ) → 1 ≤ count v l → List·Memᴰ (f v) (map f l)
+  member-mapped : (l : List ℕ) (v : ℕ) → 1 ≤ count v l → List·Memᴰ (f v) (map f l)
   member-mapped [] v h = absurd (omega arith)
   member-mapped (x ∷ l) v h = ⊎-elim (λ e. List·Memᴰ·head (ap f e)) (λ k. List·Memᴰ·tail (member-mapped l v k)) (in-cons v x l h)
+
+  -- two lists with the same nodes have the same points
+  mapped-within : (l m : List ℕ) → ((v : ℕ) → 1 ≤ count v l → 1 ≤ count v m) → Within (map f l) (map f m)
+  mapped-within l m h a k = let r = mapped-member l a k in subst⁻¹ (λ (p : Point). List·Memᴰ p (map f m)) (r .2) (member-mapped m (r .0) (h (r .0) (r .1)))
+
+  pub mapped-same : (l m : List ℕ) → ((v : ℕ) → 1 ≤ count v l → 1 ≤ count v m) → ((v : ℕ) → 1 ≤ count v m → 1 ≤ count v l) → SameSet (map f l) (map f m)
+  mapped-same l m there back = record { there = mapped-within l m there; back = mapped-within m l back }
+
+-- what holds of every level from i on, for as many as there are, holds of every node's
+pub leveled-all : (lev : ℕ → ℕ) (P : ℕ → Type 0) (i : ℕ) (ls : List (List ℕ)) → ((k : ℕ) → i ≤ k → k < i + length ls → P k) → Leveled lev i ls
+    → All (λ v. P (lev v)) (together ls)
+leveled-all lev P i [] h k = tt
+leveled-all lev P i (l ∷ ls) h k =
+    all-append (λ v. P (lev v)) l (together ls) (all-weaken (λ v. lev v ≡ i) (λ v. P (lev v)) (λ v e. subst⁻¹ P e (h i (le-refl i) (omega arith))) l (k .0))
+    (leveled-all lev P (suc i) ls (λ j a b. h j (omega arith) (omega arith)) (k .1))
 
 -- ---- in reading order
 
@@ -60,12 +75,6 @@ module _ (lev : ℕ → ℕ) (spot : ℕ → ℤ) (D : ℕ) (some : 1 ≤ D) whe
     one-level i l (h .1) (r .1),
   )
 
-  lower : (i j : ℕ) (ls : List (List ℕ)) → j ≤ i → Leveled lev i ls → All (λ v. j ≤ lev v) (together ls)
-  lower i j [] h k = tt
-  lower i j (l ∷ ls) h k =
-      all-append (λ v. j ≤ lev v) l (together ls) (all-weaken (λ v. lev v ≡ i) (λ v. j ≤ lev v) (λ v e. omega arith) l (k .0))
-      (lower (suc i) j ls (omega arith) (k .1))
-
   levels-rise : (i : ℕ) (ls : List (List ℕ)) → Leveled lev i ls → All (Apart spot D) (flatMap sideBySide ls) → Pairwise Before (map stands (together ls))
   levels-rise i [] h s = tt
   levels-rise i (l ∷ ls) h s =
@@ -74,7 +83,7 @@ module _ (lev : ℕ → ℕ) (spot : ℕ → ℤ) (D : ℕ) (some : 1 ≤ D) whe
       (one-level i l (h .0) (rising spot D l (all-left (Apart spot D) (sideBySide l) (flatMap sideBySide ls) s)))
       (levels-rise (suc i) ls (h .1) (all-right (Apart spot D) (sideBySide l) (flatMap sideBySide ls) s))
       (all-map stands (λ a. lev a ≡ i) (λ p. All (Before p) (map stands (together ls)))
-      (λ a e. all-map stands (λ b. suc i ≤ lev b) (Before (stands a)) (λ b k. inl (omega arith)) (together ls) (lower (suc i) (suc i) ls (le-refl (suc i)) (h .1))) l (h .0)))
+      (λ a e. all-map stands (λ b. suc i ≤ lev b) (Before (stands a)) (λ b k. inl (omega arith)) (together ls) (leveled-all lev (λ k. suc i ≤ k) (suc i) ls (λ k a b. a) (h .1))) l (h .0)))
 
 module _ (D : ℕ) (some : 1 ≤ D) (t : List ℕ) (accepted : tableNumber t ≡ 0) where
   order : List ℕ
@@ -101,16 +110,8 @@ module _ (D : ℕ) (some : 1 ≤ D) (t : List ℕ) (accepted : tableNumber t ≡
   pub reading-laid : SameSet (inReadingOrder D t) (laidOut D t)
   unfolding inReadingOrder laidOut order
   reading-laid =
-      record {
-        there = λ a m.
-            let r = mapped-member (nodePoint D t) order a m in
-            subst (λ (p : Point). List·Memᴰ p (map (nodePoint D t) (upTo (nodes t)))) (sym (r .2))
-            (member-mapped (nodePoint D t) (upTo (nodes t)) (r .0) (omega (arith, count-upTo (nodes t) (r .0) (order-in (r .0) (r .1)))));
-        back = λ a m.
-            let r = mapped-member (nodePoint D t) (upTo (nodes t)) a m in
-            subst (λ (p : Point). List·Memᴰ p (map (nodePoint D t) order)) (sym (r .2))
-            (member-mapped (nodePoint D t) order (r .0) (in-order (r .0) (counted-all (λ v. v < nodes t) (upTo (nodes t)) (below-upTo (nodes t)) (r .0) (r .1))));
-      }
+      mapped-same (nodePoint D t) order (upTo (nodes t)) (λ v h. omega (arith, count-upTo (nodes t) v (order-in v h)))
+      (λ v h. in-order v (counted-all (λ u. u < nodes t) (upTo (nodes t)) (below-upTo (nodes t)) v h))
 
   -- how many nodes stand on a level
   pub reading-levels : (l : ℕ) → count l (levelsIn (inReadingOrder D t)) ≡ count l (map (level t) (oldNumbers t))

@@ -43,9 +43,6 @@ equalZ-itself (negsuc a) = eq-eqb a a refl
 pub equal-equalZ : (x y : ℤ) → x ≡ y → equalZ x y ≡ true
 equal-equalZ x y e = ap (equalZ x) (sym e) ∙ equalZ-itself x
 
-pub and-true-both : {a b : Bool} → a ≡ true → b ≡ true → (a && b) ≡ true
-and-true-both e f = ap₂ _&&_ e f
-
 -- ---- points
 
 pub same-point : (a b : Point) → samePoint a b ≡ true → a ≡ b
@@ -55,7 +52,7 @@ same-point a b e =
     (equalZ-true (a .place) (b .place) (and-right (equalZ (a .level) (b .level)) (equalZ (a .place) (b .place)) e))
 
 pub point-same : (a b : Point) → a ≡ b → samePoint a b ≡ true
-point-same a b e = ap (samePoint a) (sym e) ∙ and-true-both (equalZ-itself (a .level)) (equalZ-itself (a .place))
+point-same a b e = ap (samePoint a) (sym e) ∙ ap₂ _&&_ (equalZ-itself (a .level)) (equalZ-itself (a .place))
 
 -- a comes before b
 abbrev pub Before : Point → Point → Type 0
@@ -78,7 +75,7 @@ pub before-comes : (a b : Point) → Before a b → comesBefore a b ≡ true
 before-comes a b (inl above) = or-true (inl (under-ltZ (a .level) (b .level) above))
 before-comes a b (inr beside) =
     or-true {a = ltZ (a .level) (b .level)}
-    (inr (and-true-both (equal-equalZ (a .level) (b .level) (beside .0)) (under-ltZ (a .place) (b .place) (beside .1))))
+    (inr (ap₂ _&&_ (equal-equalZ (a .level) (b .level) (beside .0)) (under-ltZ (a .place) (b .place) (beside .1))))
 
 pub never-itself : (a : Point) → Before a a → ⊥
 never-itself a (inl above) = omega arith
@@ -105,7 +102,7 @@ rising (a ∷ ps) e = rising-from a ps e
 
 from-rising : (a : Point) (ps : List Point) → All (Before a) ps → Pairwise Before ps → risesFrom a ps ≡ true
 from-rising a [] h r = refl
-from-rising a (b ∷ ps) h r = and-true-both (before-comes a b (h .0)) (from-rising b ps (r .0) (r .1))
+from-rising a (b ∷ ps) h r = ap₂ _&&_ (before-comes a b (h .0)) (from-rising b ps (r .0) (r .1))
 
 pub pairwise-rises : (ps : List Point) → Pairwise Before ps → rises ps ≡ true
 pairwise-rises [] r = refl

@@ -1,7 +1,7 @@
 -- Sets of points: the tests said of members, and a rising list that is told by its set. Assumes nothing.
 use mathlib.Core.Path.{_≡_, refl, sym, ap, ap₂, _∙_, subst}
 use mathlib.Core.Logic.{inl, inr, ⊎-elim}
-use mathlib.Core.Bool.{Bool, true, _||_, false≢true}
+use mathlib.Core.Bool.{Bool, true, _||_, false≢true, _&&_}
 use mathlib.Core.List.{List, [], _∷_, List·Memᴰ, List·Memᴰ·head, List·Memᴰ·tail, List·Memᴰ·not-nil, List·Memᴰ·cases-cons, Memᴰ·cast}
 use Prim.Native.Nat.{_≤_}
 use native.Mathlib.Omega.{arith}
@@ -10,7 +10,7 @@ use Rattle.refusal.proofs.Truth.{true-or-false, and-left, and-right, or-true}
 use Rattle.tree.proofs.Counting.{All}
 use Rattle.rule.proofs.ReadingOrder.{Pairwise}
 use Rattle.plots.specs.Points.{Point, samePoint, isAmong, allAmong, sameSet, Within, SameSet}
-use Rattle.plots.proofs.Order.{and-true-both, same-point, point-same, Before, never-itself, before-further}
+use Rattle.plots.proofs.Order.{same-point, point-same, Before, never-itself, before-further}
 
 -- ---- the tests
 
@@ -35,7 +35,7 @@ all-within qs (b ∷ ps) e a m =
 pub within-all : (qs ps : List Point) → Within ps qs → allAmong qs ps ≡ true
 within-all qs [] h = refl
 within-all qs (b ∷ ps) h =
-    and-true-both (member-among qs b (h b (List·Memᴰ·head refl))) (within-all qs ps (λ a m. h a (List·Memᴰ·tail m)))
+    ap₂ _&&_ (member-among qs b (h b (List·Memᴰ·head refl))) (within-all qs ps (λ a m. h a (List·Memᴰ·tail m)))
 
 module _ (ps qs : List Point) where
   pub set-same : sameSet ps qs ≡ true → SameSet ps qs
@@ -48,7 +48,7 @@ module _ (ps qs : List Point) where
 
   pub same-set : SameSet ps qs → sameSet ps qs ≡ true
   unfolding sameSet
-  same-set S = and-true-both (within-all qs ps (S .there)) (within-all ps qs (S .back))
+  same-set S = ap₂ _&&_ (within-all qs ps (S .there)) (within-all ps qs (S .back))
 
 -- ---- rising lists
 

@@ -2,8 +2,8 @@
 use mathlib.Core.Path.{_≡_, refl, sym, ap, ap₂, _∙_, subst, subst⁻¹}
 use mathlib.Core.Logic.{⊎-elim}
 use mathlib.Core.Bool.{true, false, true≢false}
-use mathlib.Core.List.{List, [], _∷_, map, append-nil, List·Memᴰ}
-use Prim.Native.Nat.{ℕ, suc, _+_, _*_, _≤_, _<_}
+use mathlib.Core.List.{List, [], _∷_, map, append-nil}
+use Prim.Native.Nat.{ℕ, _+_, _*_, _≤_, _<_}
 use native.Mathlib.Omega.{arith}
 use lib.IntN.{ℤ, pos, _+ℤ_, +ℤ-idl, +ℤ-idr}
 use lib.ListN.{length}
@@ -15,11 +15,11 @@ use Rattle.tree.specs.Levels.{Pair, level, levels, levelCount, together}
 use Rattle.tree.specs.Shape.{sameShape, corresponding, correspondingUnder, sameOrderedShape, under}
 use Rattle.tree.specs.WellFormed.{tableNumber}
 use Rattle.tree.specs.Operations.{numberFrom, renumbered, oldNumbers}
-use Rattle.tree.proofs.Counting.{All, all-append, all-weaken, all-both, all-map, count-upTo, below-upTo}
+use Rattle.tree.proofs.Counting.{All, all-both, all-map, count-upTo, below-upTo}
 use Rattle.tree.proofs.Tests.{counted-all}
 use Rattle.tree.proofs.Stands.{accepted-numbers, accepted-inside, accepted-size}
 use Rattle.tree.proofs.Followed.{accepted-linked, followed-node, followed-none}
-use Rattle.tree.proofs.Leveled.{Leveled, accepted-leveled}
+use Rattle.tree.proofs.Leveled.{accepted-leveled}
 use Rattle.tree.proofs.LevelOf.{root-level}
 use Rattle.tree.proofs.Reading.{size-preorder}
 use Rattle.tree.proofs.TableOf.{nodes-tableOf}
@@ -32,7 +32,7 @@ use Rattle.plots.specs.Points.{Point, point, pointsOf, entriesOf, sameSe
 use Rattle.plots.specs.Dots.{dotsWrong}
 use Rattle.plots.proofs.Order.{Before}
 use Rattle.plots.proofs.Sets.{set-same, same-set}
-use Rattle.plots.proofs.Laid.{mapped-member, member-mapped, reading-rises, length-reading, reading-laid}
+use Rattle.plots.proofs.Laid.{mapped-same, leveled-all, reading-rises, length-reading, reading-laid}
 use Rattle.plots.proofs.Sound.{OnLevel, sound-right}
 
 -- ---- sets
@@ -59,12 +59,6 @@ length-entries : (ps : List Point) → length (entriesOf ps) ≡ 2 * length ps
 length-entries [] = refl
 length-entries (a ∷ ps) = omega (arith, length-entries ps)
 
-upper : (lev : ℕ → ℕ) (i j : ℕ) (ls : List (List ℕ)) → i + length ls ≤ j → Leveled lev i ls → All (λ v. lev v < j) (together ls)
-upper lev i j [] h k = tt
-upper lev i j (l ∷ ls) h k =
-    all-append (λ v. lev v < j) l (together ls) (all-weaken (λ v. lev v ≡ i) (λ v. lev v < j) (λ v e. omega arith) l (k .0))
-    (upper lev (suc i) j ls (omega arith) (k .1))
-
 module _ (D : ℕ) (some : 1 ≤ D) (t : List ℕ) (accepted : tableNumber t ≡ 0) where
   pub plot-points : pointsOf (plotOf D t) ≡ inReadingOrder D t
   unfolding plotOf
@@ -85,7 +79,7 @@ module _ (D : ℕ) (some : 1 ≤ D) (t : List ℕ) (accepted : tableNumber t ≡
         entries = length-entries (inReadingOrder D t) ∙ ap (λ (k : ℕ). 2 * k) (length-reading D some t accepted);
         levels = subst⁻¹ (All OnLevel) plot-points
             (all-map (nodePoint D t) (λ v. level t v < 8) OnLevel (λ v h. (level t v, h, refl)) (together (levels (treeOf t)))
-            (upper (level t) 0 8 (levels (treeOf t)) (omega (arith, neighbours-count t accepted)) (accepted-leveled t accepted)));
+            (leveled-all (level t) (λ k. k < 8) 0 (levels (treeOf t)) (λ k a b. omega (arith, neighbours-count t accepted)) (accepted-leveled t accepted)));
         rise = subst⁻¹ (Pairwise Before) plot-points (reading-rises D some t accepted);
       })
 
@@ -174,17 +168,8 @@ module _ (D : ℕ) (t : List ℕ) (accepted : tableNumber t ≡ 0) where
   unfolding laidOut oldNumbers
   laid-renumbered =
       subst (λ (l : List Point). SameSet l (laidOut D t)) laid-again
-      (record {
-        there = λ a m.
-            let r = mapped-member (nodePoint D t) (oldNumbers t) a m in
-            subst⁻¹ (λ (p : Point). List·Memᴰ p (map (nodePoint D t) (upTo (nodes t)))) (r .2)
-            (member-mapped (nodePoint D t) (upTo (nodes t)) (r .0) (omega (arith, count-upTo (nodes t) (r .0) (accepted-inside t accepted (r .0) (r .1)))));
-        back = λ a m.
-            let r = mapped-member (nodePoint D t) (upTo (nodes t)) a m in
-            let inside = counted-all (λ v. v < nodes t) (upTo (nodes t)) (below-upTo (nodes t)) (r .0) (r .1) in
-            subst⁻¹ (λ (p : Point). List·Memᴰ p (map (nodePoint D t) (oldNumbers t))) (r .2)
-            (member-mapped (nodePoint D t) (oldNumbers t) (r .0) (omega (arith, accepted-numbers t accepted .each (r .0) inside)));
-      })
+      (mapped-same (nodePoint D t) (oldNumbers t) (upTo (nodes t)) (λ v h. omega (arith, count-upTo (nodes t) v (accepted-inside t accepted v h)))
+      (λ v h. omega (arith, accepted-numbers t accepted .each v (counted-all (λ u. u < nodes t) (upTo (nodes t)) (below-upTo (nodes t)) v h))))
 
   -- so it fits where its renumbered form does
   pub fits-renumbered : (points : List Point) → tableFits D points again ≡ tableFits D points t

@@ -86,7 +86,7 @@ fn descend(counts: &[u16], place: u16, left: &mut [u16], levels: &mut [usize]) -
     0
 }
 
-// Tries the tree at a place.
+// Whether the tree at a place fits; one that has too many nodes on a level is passed, with those that begin alike.
 fn try_place(
     counts: &[u16],
     profile: [u16; 8],
