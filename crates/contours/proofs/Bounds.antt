@@ -2,20 +2,19 @@
 use mathlib.Core.Path.{_≡_, refl, ap, _∙_}
 use mathlib.Core.List.{List, [], _∷_, _++_, List·Memᴰ, List·Memᴰ·head}
 use Prim.Native.Nat.{ℕ, zero, suc, _+_, _-_, _≤_, _<_}
-use native.Mathlib.Nat.{le-trans, not-suc-le-zero}
+use native.Mathlib.Nat.{le-refl, le-trans, not-suc-le-zero}
 use native.Mathlib.Omega.{arith}
 use lib.IntN.{ℤ, pos, negsuc, _+ℤ_, natAbs}
 use lib.ListN.{length}
-use Rattle.distance.specs.Needed.{Distance}
 use Rattle.tree.specs.Forest.{size}
 use Rattle.tree.proofs.Joined.{size-join}
 use Rattle.rule.specs.Drawing.{Drawing, none, at, width, placeAt, lastPlace, Dot, dot, dots, rowDots}
-use Rattle.rule.specs.Join.{alone}
+use Rattle.rule.specs.Join.{Spacing, alone}
 use Rattle.rule.proofs.Signed.{parts-add, AtMost}
 use Rattle.rule.proofs.Names.{names, names-draw}
 use Rattle.rule.proofs.Spacing.{row-none}
 use Rattle.rule.proofs.OnLevel.{OnLevel, top, down, on-left, on-right}
-use Rattle.rule.proofs.Width.{Narrow, span, narrow-drawOnto, narrow-none, narrow-alone}
+use Rattle.rule.proofs.Width.{Narrow, span, span-small, narrow-drawOnto, narrow-none, narrow-alone}
 use Rattle.contours.specs.Rows.{rowDrawn, childrenDrawn}
 use Rattle.level_order.proofs.Positions.{Ordered, mono-le, within, run, run-node, run-nil, run-cut}
 use Rattle.contours.proofs.Places.{row-width, row-first, last-place}
@@ -60,22 +59,18 @@ module _ (first : ℕ → ℕ) (n : ℕ) (O : Ordered first n) where
         size-join (run first n a b) (run first n b (first a)),
       )
 
-  module _ (D : Distance) (few : n ≤ 1024) (small : (a b : ℕ) → D a b ≤ 1536) where
-    span-small : (m : ℕ) → m ≤ n → span 1536 m ≤ 1571328
-    span-small zero h = omega arith
-    span-small (suc m) h = omega arith
-
-    narrow-run : (a b : ℕ) → a ≤ b → b ≤ n → b ≤ first a → (w : ℕ) × (w ≤ 1571328) × Narrow w (rowDots 0 (rowDrawn first n D a b))
+  module _ (D : Spacing) (few : n ≤ 1024) (small : (a b : ℕ) → D .need a b ≤ 1536) (little : D .extra ≤ 1024) where
+    narrow-run : (a b : ℕ) → a ≤ b → b ≤ n → b ≤ first a → (w : ℕ) × (w ≤ 2094592) × Narrow w (rowDots 0 (rowDrawn first n D a b))
     narrow-run a b h hb k = (
-      span 1536 (size (names (rowDrawn first n D a b))),
-      span-small (size (names (rowDrawn first n D a b))) (omega (arith, ap size (names-draw D (run first n a b)), size-run a b h hb k)),
-      narrow-drawOnto D 1536 small none (run first n a b) (row-none D) narrow-none,
+      span 1536 (D .extra) (size (names (rowDrawn first n D a b))),
+      omega (arith, little, span-small 1536 (D .extra) (size (names (rowDrawn first n D a b))) (omega (arith, ap size (names-draw D (run first n a b)), size-run a b h hb k)) (le-refl 1536)),
+      narrow-drawOnto D 1536 small none (run first n a b) row-none narrow-none,
     )
 
     child-dot : (a b : ℕ) → b ≤ n → (j : ℕ) → j < b - a → (e : Dot) × OnLevel e 0 (rowDots 0 (rowDrawn first n D a b)) × (e .place ≡ pos (placeAt (rowDrawn first n D a b) j))
     child-dot a b hb j h = place-dot 0 (rowDrawn first n D a b) j (omega (arith, row-width first n O D (b - a) a b (omega arith) hb))
 
-    pub row-near : (a b : ℕ) → a < b → b ≤ n → b ≤ first a → (e : Dot) (l : ℕ) → OnLevel e l (rowDots 0 (rowDrawn first n D a b)) → natAbs (e .place) ≤ 1571328
+    pub row-near : (a b : ℕ) → a < b → b ≤ n → b ≤ first a → (e : Dot) (l : ℕ) → OnLevel e l (rowDots 0 (rowDrawn first n D a b)) → natAbs (e .place) ≤ 2094592
     row-near a b h hb k e l o =
         let N = narrow-run a b (omega arith) hb k in
         let z = child-dot a b hb 0 (omega arith) in
@@ -86,18 +81,18 @@ module _ (first : ℕ → ℕ) (n : ℕ) (O : Ordered first n) where
         (omega (arith, N .1))
 
     -- every child of a row, and so the last
-    pub place-bound : (a b : ℕ) → a < b → b ≤ n → b ≤ first a → (j : ℕ) → j < b - a → placeAt (rowDrawn first n D a b) j ≤ 1571328
+    pub place-bound : (a b : ℕ) → a < b → b ≤ n → b ≤ first a → (j : ℕ) → j < b - a → placeAt (rowDrawn first n D a b) j ≤ 2094592
     place-bound a b h hb k j l =
         let r = child-dot a b hb j l in
         omega (arith, ap natAbs (r .2), row-near a b h hb k (r .0) 0 (r .1))
 
-    pub row-bound : (a b : ℕ) → a < b → b ≤ n → b ≤ first a → lastPlace (rowDrawn first n D a b) ≤ 1571328
+    pub row-bound : (a b : ℕ) → a < b → b ≤ n → b ≤ first a → lastPlace (rowDrawn first n D a b) ≤ 2094592
     row-bound a b h hb k =
         let last = last-place (rowDrawn first n D a b) (b - a - 1) (row-width first n O D (suc (b - a - 1)) a b (omega arith) hb) in
         omega (arith, place-bound a b h hb k (b - a - 1) (omega arith))
 
     -- a subtree whose root stands at x
-    pub alone-near : (i c x : ℕ) → c < n → (e : Dot) (l : ℕ) → OnLevel e l (dots i (pos 0) (alone c x (childrenDrawn first n D c))) → natAbs (e .place) ≤ x + 1571328
+    pub alone-near : (i c x : ℕ) → c < n → (e : Dot) (l : ℕ) → OnLevel e l (dots i (pos 0) (alone c x (childrenDrawn first n D c))) → natAbs (e .place) ≤ x + 2094592
     alone-near i c x h e l o =
         let N = narrow-run (first c) (first (suc c)) (O .mono c h) (within first n O (suc c) h) (mono-le first n O (suc c) (first c) (O .later c h) (within first n O c (omega arith))) in
         let A = narrow-alone (N .0) i c x (childrenDrawn first n D c) (N .2) in

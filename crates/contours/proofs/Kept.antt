@@ -4,12 +4,11 @@ use mathlib.Core.List.{List, [], _∷_, map}
 use Prim.Native.Nat.{ℕ, suc, _+_, _≤_, _<_}
 use native.Mathlib.Omega.{arith}
 use lib.IntN.{ℤ, pos, _-ℤ_}
-use Rattle.distance.specs.Needed.{Distance}
 use Rattle.tree.specs.Numbers.{count}
 use Rattle.tree.specs.Forest.{Forest, preorder}
 use Rattle.tree.proofs.Counting.{All, count-append, is-same, all-map}
 use Rattle.rule.specs.Drawing.{Drawing, none, at, width, middle, Dot, dots, rowDots, firstOf, lastOf}
-use Rattle.rule.specs.Join.{alone}
+use Rattle.rule.specs.Join.{Spacing, alone}
 use Rattle.rule.specs.Rule.{draw}
 use Rattle.rule.proofs.Moving.{settle, dots-row}
 use Rattle.rule.proofs.Names.{names, names-draw}
@@ -41,7 +40,7 @@ of-row i (at v x below after) =
     (levels-weaken (Of (names after)) (Of whole) (λ e h. omega (arith, count-append (e .node) (preorder (names below)) (preorder (names after)))) (rowDots (i + 1) after)
     (of-row (i + 1) after))
 
-module _ (D : Distance) (f : Forest) (old new : ℕ → ℤ) (same : (z : ℕ) → 1 ≤ count z (preorder f) → new z ≡ old z) where
+module _ (D : Spacing) (f : Forest) (old new : ℕ → ℤ) (same : (z : ℕ) → 1 ≤ count z (preorder f) → new z ≡ old z) where
   abbrev rows : List (List Dot)
   rows = rowDots 0 (draw D f)
 
@@ -49,7 +48,7 @@ module _ (D : Distance) (f : Forest) (old new : ℕ → ℤ) (same : (z : ℕ) �
   named = subst (λ (g : Forest). All (All (Of g)) rows) (names-draw D f) (of-row 0 (draw D f))
 
   filled : All Some rows
-  filled = row-drawOnto D none f (row-none D) .some
+  filled = row-drawOnto D none f row-none .some
 
   same-steps : (pick : List Dot → Dot) → ((x : List Dot) → Some x → All (Of f) x → Of f (pick x)) → Inner (λ x. new ((pick x) .node) ≡ old ((pick x) .node)) rows
   same-steps pick h = all-inner (λ x. new ((pick x) .node) ≡ old ((pick x) .node)) rows (each rows filled named)
@@ -64,7 +63,7 @@ module _ (D : Distance) (f : Forest) (old new : ℕ → ℤ) (same : (z : ℕ) �
   pub right-kept : RightSteps old rows → RightSteps new rows
   right-kept = right-frame old new rows (same-steps lastOf (last-in (Of f)))
 
-module _ (first : ℕ → ℕ) (n : ℕ) (O : Ordered first n) (D : Distance) (c : ℕ) (inside : c < n) (left right left′ right′ : ℕ → ℤ)
+module _ (first : ℕ → ℕ) (n : ℕ) (O : Ordered first n) (D : Spacing) (c : ℕ) (inside : c < n) (left right left′ right′ : ℕ → ℤ)
     (same-left : (z : ℕ) → 1 ≤ times first n c (suc c) z → left′ z ≡ left z) (same-right : (z : ℕ) → 1 ≤ times first n c (suc c) z → right′ z ≡ right z) where
   pub subtree-kept : Subtree first n D c left right → Subtree first n D c left′ right′
   subtree-kept S =
@@ -82,7 +81,7 @@ module _ (first : ℕ → ℕ) (n : ℕ) (O : Ordered first n) (D : Distance) (c
       root = omega (arith, times-root first n O c c inside, is-same c c refl)
 
 -- a subtree of one node
-pub subtree-leaf : (first : ℕ → ℕ) (n : ℕ) (O : Ordered first n) (D : Distance) (q : ℕ) (left right : ℕ → ℤ) → first (suc q) ≤ first q → Subtree first n D q left right
+pub subtree-leaf : (first : ℕ → ℕ) (n : ℕ) (O : Ordered first n) (D : Spacing) (q : ℕ) (left right : ℕ → ℤ) → first (suc q) ≤ first q → Subtree first n D q left right
 subtree-leaf first n O D q left right h =
     let nothing : childrenDrawn first n D q ≡ none = ap (draw D) (run-nil first n O (first q) (first (suc q)) h) in
     record {

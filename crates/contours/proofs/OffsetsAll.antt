@@ -5,9 +5,8 @@ use Prim.Native.Nat.{ℕ, zero, suc, _+_, _-_, _≤_, _<_}
 use native.Mathlib.Nat.{le-refl}
 use native.Mathlib.Omega.{arith}
 use lib.IntN.{ℤ, pos, _-ℤ_}
-use Rattle.distance.specs.Needed.{Distance}
 use Rattle.rule.specs.Drawing.{Drawing, none, at, width, append, placeAt, middle}
-use Rattle.rule.specs.Join.{Meeting, spread, alone, settled, meetings}
+use Rattle.rule.specs.Join.{Spacing, Meeting, spread, alone, settled, meetings}
 use Rattle.rule.specs.Join as rule
 use Rattle.rule.proofs.Moving.{width-spread}
 use Rattle.contours.specs.Rows.{rowDrawn, childrenDrawn, Offsets}
@@ -28,9 +27,9 @@ module _ (under : ℕ → Drawing) where
   kids-spread j ms p none a r = tt
   kids-spread j ms p (at v x below after) a r = (r .0, r .1, kids-spread j ms (p + 1) after (suc a) (r .2))
 
-  kids-join : (D : Distance) (row : Drawing) (a v : ℕ) → v ≡ a + width row → Kids under a row → Kids under a (rule.join D row v (under v))
+  kids-join : (D : Spacing) (row : Drawing) (a v : ℕ) → v ≡ a + width row → Kids under a row → Kids under a (rule.join D row v (under v))
   kids-join D row a v h r =
-      let ms = meetings D row v (under v) in
+      let ms = meetings (D .need) row v (under v) in
       kids-last (spread (width row) ms 0 row) a v (settled D row v (under v)) (omega (arith, width-spread (width row) ms 0 row)) (kids-spread (width row) ms 0 row a r)
 
   -- a row has its offsets, where its children have theirs and so has everything below them
@@ -47,7 +46,7 @@ module _ (under : ℕ → Drawing) where
             (λ q h k. u q (omega arith) (omega arith)),
       )
 
-module _ (first : ℕ → ℕ) (n : ℕ) (O : Ordered first n) (D : Distance) where
+module _ (first : ℕ → ℕ) (n : ℕ) (O : Ordered first n) (D : Spacing) where
   kids-row : (k f c : ℕ) → c ≡ f + k → c ≤ n → Kids (childrenDrawn first n D) f (rowDrawn first n D f c)
   kids-row zero f c e h = rw (run-nil first n O f c (omega arith)) tt
   kids-row (suc k) f zero e h = absurd (omega arith)

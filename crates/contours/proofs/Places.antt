@@ -7,7 +7,7 @@ use native.Mathlib.Omega.{arith}
 use Rattle.distance.specs.Needed.{Distance}
 use Rattle.tree.specs.Forest.{nil, node}
 use Rattle.rule.specs.Drawing.{Drawing, none, at, width, placeAt, firstPlace, lastPlace}
-use Rattle.rule.specs.Join.{Meeting, shares, spread, start, alone, settled, meetings}
+use Rattle.rule.specs.Join.{Spacing, Meeting, shares, added, spread, start, alone, settled, meetings}
 use Rattle.rule.specs.Join as rule
 use Rattle.rule.specs.Rule.{draw}
 use Rattle.rule.proofs.Names.{names}
@@ -18,17 +18,17 @@ use Rattle.contours.specs.Rows.{rowDrawn, childrenDrawn}
 use Rattle.level_order.proofs.Positions.{Ordered, Laid, run, family, run-last, run-nil}
 
 -- after a join a child of the row has moved by its shares, and the new child stands where it settled
-pub join-place : (D : Distance) (row : Drawing) (v : ℕ) (below : Drawing) (p : ℕ) → p < width row
-    → placeAt (rule.join D row v below) p ≡ placeAt row p + shares (width row) (meetings D row v below) p
+pub join-place : (D : Spacing) (row : Drawing) (v : ℕ) (below : Drawing) (p : ℕ) → p < width row
+    → placeAt (rule.join D row v below) p ≡ placeAt row p + shares (width row) (meetings (D .need) row v below) p
 join-place D row v below p h =
-    append-left (spread (width row) (meetings D row v below) 0 row) (alone v (settled D row v below) below) p (omega (arith, width-spread (width row) (meetings D row v below) 0 row))
-    ∙ spread-place (width row) (meetings D row v below) 0 row p h
-    ∙ ap (λ (k : ℕ). placeAt row p + shares (width row) (meetings D row v below) k) (zero-add p)
+    append-left (spread (width row) (meetings (D .need) row v below) 0 row) (alone v (settled D row v below) below) p (omega (arith, width-spread (width row) (meetings (D .need) row v below) 0 row))
+    ∙ spread-place (width row) (meetings (D .need) row v below) 0 row p h
+    ∙ ap (λ (k : ℕ). placeAt row p + shares (width row) (meetings (D .need) row v below) k) (zero-add p)
 
-pub join-new : (D : Distance) (row : Drawing) (v : ℕ) (below : Drawing) → placeAt (rule.join D row v below) (width row) ≡ settled D row v below
+pub join-new : (D : Spacing) (row : Drawing) (v : ℕ) (below : Drawing) → placeAt (rule.join D row v below) (width row) ≡ settled D row v below
 join-new D row v below =
-    ap (placeAt (rule.join D row v below)) (sym (width-spread (width row) (meetings D row v below) 0 row))
-    ∙ append-right (spread (width row) (meetings D row v below) 0 row) v (settled D row v below) below
+    ap (placeAt (rule.join D row v below)) (sym (width-spread (width row) (meetings (D .need) row v below) 0 row))
+    ∙ append-right (spread (width row) (meetings (D .need) row v below) 0 row) v (settled D row v below) below
 
 -- the next child of a row of the positions from a to b starts after the last one, b - 1, at what the two need
 pub start-place : (D : Distance) (first : ℕ → ℕ) (d : Drawing) (a b v w : ℕ) → Laid first a b (names d) → width d ≡ suc w
@@ -53,7 +53,7 @@ first-place (at v x below after) = refl
 
 -- ---- the rows of level order
 
-module _ (first : ℕ → ℕ) (n : ℕ) (O : Ordered first n) (D : Distance) where
+module _ (first : ℕ → ℕ) (n : ℕ) (O : Ordered first n) (D : Spacing) where
   -- the row with one child more
   pub row-more : (f c : ℕ) → f ≤ c → c < n → rowDrawn first n D f (suc c) ≡ rule.join D (rowDrawn first n D f c) c (childrenDrawn first n D c)
   row-more f c h k = ap (draw D) (run-last first n O f c h k) ∙ drawOnto-join D none (run first n f c) (node c (family first n c) nil)
@@ -65,13 +65,14 @@ module _ (first : ℕ → ℕ) (n : ℕ) (O : Ordered first n) (D : Distance) wh
 
   -- the first child stands at 0
   pub row-first : (k f c : ℕ) → c ≡ f + suc k → c ≤ n → placeAt (rowDrawn first n D f c) 0 ≡ 0
+  unfolding added
   row-first zero f zero e h = absurd (omega arith)
   row-first zero f (suc c) e h = rw (row-more f c (omega arith) h, run-nil first n O f c (omega arith))
   row-first (suc k) f zero e h = absurd (omega arith)
   row-first (suc k) f (suc c) e h =
       let w = row-width (suc k) f c (omega arith) (omega arith) in
       rw (row-more f c (omega arith) h, join-place D (rowDrawn first n D f c) c (childrenDrawn first n D c) 0 (omega arith))
-      (omega (arith, row-first k f c (omega arith) (omega arith), first-share (width (rowDrawn first n D f c)) (meetings D (rowDrawn first n D f c) c (childrenDrawn first n D c))))
+      (omega (arith, row-first k f c (omega arith) (omega arith), first-share (width (rowDrawn first n D f c)) (meetings (D .need) (rowDrawn first n D f c) c (childrenDrawn first n D c))))
     where
       first-share : (j : ℕ) (ms : List Meeting) → shares j ms 0 ≡ 0
       first-share j [] = refl

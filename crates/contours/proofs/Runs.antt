@@ -5,10 +5,9 @@ use mathlib.Core.List.{List, [], _∷_}
 use Prim.Native.Nat.{ℕ, suc, _+_, _≤_, _<_}
 use native.Mathlib.Omega.{arith}
 use lib.IntN.{ℤ, pos, _+ℤ_, _-ℤ_}
-use Rattle.distance.specs.Needed.{Distance}
 use Rattle.tree.specs.Levels.{beside}
 use Rattle.rule.specs.Drawing.{Drawing, none, at, middle, Dot, dot, dots, rowDots, firstOf, lastOf}
-use Rattle.rule.specs.Join.{alone}
+use Rattle.rule.specs.Join.{Spacing, alone}
 use Rattle.rule.specs.Rule.{draw}
 use Rattle.rule.proofs.Names.{names, names-draw}
 use Rattle.rule.proofs.LevelEnds.{last-append}
@@ -55,11 +54,11 @@ runs-row first i (at v x below after) a b l =
 
 module _ (first : ℕ → ℕ) (n : ℕ) (O : Ordered first n) where
   -- the levels of the drawn rows
-  pub runs-draw : (D : Distance) (a b : ℕ) → a ≤ b → b ≤ n → Runs first a b (rowDots 0 (draw D (run first n a b)))
+  pub runs-draw : (D : Spacing) (a b : ℕ) → a ≤ b → b ≤ n → Runs first a b (rowDots 0 (draw D (run first n a b)))
   runs-draw D a b h hb = runs-row first 0 (draw D (run first n a b)) a b (rw names-draw (laid-run first n O a b h hb))
 
   -- the levels of a drawn subtree
-  pub runs-alone : (D : Distance) (i c x : ℕ) → c < n → Runs first c (suc c) (dots i (pos 0) (alone c x (draw D (family first n c))))
+  pub runs-alone : (D : Spacing) (i c x : ℕ) → c < n → Runs first c (suc c) (dots i (pos 0) (alone c x (draw D (family first n c))))
   runs-alone D i c x h =
       runs-dots first i (pos 0) (alone c x (draw D (family first n c))) c (suc c) (
         refl,

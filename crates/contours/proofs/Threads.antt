@@ -11,12 +11,13 @@ use Rattle.tree.specs.Forest.{Forest, nil, node}
 use Rattle.tree.proofs.Counting.{All, all-weaken, all-map}
 use Rattle.tree.proofs.Joined.{Some, some}
 use Rattle.rule.specs.Drawing.{Drawing, none, width, Dot, dot, dots, rowDots, firstOf, lastOf, leftContour, rightContour}
-use Rattle.rule.specs.Join.{Meeting, shortfall, meet, shares, total, start, alone, join, meetings}
+use Rattle.rule.specs.Join.{Spacing, Meeting, shortfall, meet, shares, movement, start, alone, join, meetings}
 use Rattle.rule.specs.Rule.{drawOnto}
 use Rattle.rule.proofs.Moving.{shiftBy, moveBy, rowDots-join}
 use Rattle.rule.proofs.Spacing.{Spaced, Row, Child, alone-child, row-join, row-none, row-drawOnto}
 use Rattle.contours.proofs.Contour.{over, picked-all, left-beside, right-beside}
 use Rattle.rule.proofs.Shares.{share-none}
+use Rattle.rule.proofs.Significant.{meet-none}
 use Rattle.rule.proofs.Walk.{Falling}
 use Rattle.rule.proofs.LevelEnds.{first-in}
 
@@ -75,10 +76,6 @@ firsts-stay D j xs ws R r =
 
 -- ---- below the new child's last level no last child is moved
 
-pub meet-none : (D : Distance) (moved : ℕ) (l : List Dot) → meet D moved l [] ≡ []
-meet-none D moved [] = refl
-meet-none D moved (e ∷ l) = refl
-
 lasts-stay : (D : Distance) (j c moved : ℕ) (xs ys : List (List Dot)) (m : ℕ → ℕ) (h : Dot → Dot) → Falling c xs
     → ((p : ℕ) → p ≤ c → m p ≡ shares j (meet D moved (rightContour xs) (leftContour ys)) p)
     → over (map h (rightContour ys)) (map (moveBy m) (rightContour xs)) ≡ over (map h (rightContour ys)) (rightContour xs)
@@ -93,25 +90,25 @@ lasts-stay D j c moved (x ∷ xs) (y ∷ ys) m h f k =
 
 -- ---- a join
 
-module _ (D : Distance) (row : Drawing) (v : ℕ) (below : Drawing) where
+module _ (D : Spacing) (row : Drawing) (v : ℕ) (below : Drawing) where
   abbrev xs : List (List Dot)
   xs = rowDots 0 row
 
   abbrev ys : List (List Dot)
-  ys = dots (width row) (pos 0) (alone v (start D row v) below)
+  ys = dots (width row) (pos 0) (alone v (start (D .need) row v) below)
 
   abbrev pub shifted : Dot → Dot
-  shifted = shiftBy (pos (total (meetings D row v below)))
+  shifted = shiftBy (pos (movement (D .extra) (meetings (D .need) row v below)))
 
-  module _ (R : Row D (width row) xs) (C : Child D (width row) ys) where
+  module _ (R : Row (D .need) (width row) xs) (C : Child (D .need) (width row) ys) where
     pub left-join : Rising 0 (leftContour xs) → leftContour (rowDots 0 (join D row v below)) ≡ over (leftContour xs) (map shifted (leftContour ys))
     left-join r =
-        rw (rowDots-join D row v below, left-beside _ shifted xs ys (R .some) (C .some), firsts-stay D (width row) xs (leftContour ys) R r)
+        rw (rowDots-join D row v below, left-beside _ shifted xs ys (R .some) (C .some), firsts-stay (D .need) (width row) xs (leftContour ys) R r)
 
     pub right-join : rightContour (rowDots 0 (join D row v below)) ≡ over (map shifted (rightContour ys)) (rightContour xs)
     right-join =
         rw (rowDots-join D row v below, right-beside _ shifted xs ys (R .some) (C .some))
-        (lasts-stay D (width row) (width row) 0 xs ys _ shifted (R .falling) (λ p h. refl))
+        (lasts-stay (D .need) (width row) (width row) 0 xs ys _ shifted (R .falling) (λ p h. refl))
 
     rising-join : Rising 0 (leftContour xs) → Rising 0 (leftContour (rowDots 0 (join D row v below)))
     rising-join r =
@@ -122,9 +119,9 @@ module _ (D : Distance) (row : Drawing) (v : ℕ) (below : Drawing) where
         Own : Dot → Type 0
         Own e = e .child ≡ width row
 
-pub rising-drawOnto : (D : Distance) (row : Drawing) (f : Forest) → Row D (width row) (rowDots 0 row) → Rising 0 (leftContour (rowDots 0 row)) → Rising 0 (leftContour (rowDots 0 (drawOnto D row f)))
+pub rising-drawOnto : (D : Spacing) (row : Drawing) (f : Forest) → Row (D .need) (width row) (rowDots 0 row) → Rising 0 (leftContour (rowDots 0 row)) → Rising 0 (leftContour (rowDots 0 (drawOnto D row f)))
 rising-drawOnto D row nil R r = r
 rising-drawOnto D row (node v f g) R r =
     let b = drawOnto D none f in
-    let B = row-drawOnto D none f (row-none D) in
-    rising-drawOnto D (join D row v b) g (row-join D row v b R B) (rising-join D row v b R (alone-child D (width row) (width b) v (start D row v) b B) r)
+    let B = row-drawOnto D none f row-none in
+    rising-drawOnto D (join D row v b) g (row-join D row v b R B) (rising-join D row v b R (alone-child (D .need) (width row) (width b) v (start (D .need) row v) b B) r)

@@ -4,8 +4,8 @@ use mathlib.Core.Path.{_≡_}
 use mathlib.Core.Logic.{_⊎_}
 use mathlib.Core.List.{List, [], _∷_}
 use lib.IntN.{ℤ, pos, _+ℤ_, _-ℤ_}
-use Rattle.distance.specs.Needed.{Distance}
 use Rattle.rule.specs.Drawing.{Drawing, none, at, width, placeAt, firstPlace, lastPlace, middle, Dot, lastOf, rowDots}
+use Rattle.rule.specs.Join.{Spacing}
 use Rattle.rule.specs.Rule.{draw}
 use Rattle.level_order.specs.LevelOrder.{positions}
 use Rattle.contours.specs.Contours.{LeftSteps, RightSteps}
@@ -37,31 +37,31 @@ pub record Columns : Type 0 where
   pub change : ℕ → ℤ
 
 -- the drawing of the children of position p
-abbrev pub childrenDrawn : (ℕ → ℕ) → ℕ → Distance → ℕ → Drawing
-childrenDrawn first n need p = draw need (positions n first (first p) (first (suc p)))
+abbrev pub childrenDrawn : (ℕ → ℕ) → ℕ → Spacing → ℕ → Drawing
+childrenDrawn first n spacing p = draw spacing (positions n first (first p) (first (suc p)))
 
 -- the contours of the subtree at position p are stored
-pub record Subtree (first : ℕ → ℕ) (n : ℕ) (need : Distance) (p : ℕ) (left right : ℕ → ℤ) : Type 0 where
-  pub left-row : LeftSteps left (rowDots 0 (childrenDrawn first n need p))
-  pub right-row : RightSteps right (rowDots 0 (childrenDrawn first n need p))
-  pub left-root : 0 < width (childrenDrawn first n need p)
-      → left p ≡ pos (firstPlace (childrenDrawn first n need p)) -ℤ pos (middle (childrenDrawn first n need p))
-  pub right-root : 0 < width (childrenDrawn first n need p)
-      → right p ≡ pos (lastPlace (childrenDrawn first n need p)) -ℤ pos (middle (childrenDrawn first n need p))
+pub record Subtree (first : ℕ → ℕ) (n : ℕ) (spacing : Spacing) (p : ℕ) (left right : ℕ → ℤ) : Type 0 where
+  pub left-row : LeftSteps left (rowDots 0 (childrenDrawn first n spacing p))
+  pub right-row : RightSteps right (rowDots 0 (childrenDrawn first n spacing p))
+  pub left-root : 0 < width (childrenDrawn first n spacing p)
+      → left p ≡ pos (firstPlace (childrenDrawn first n spacing p)) -ℤ pos (middle (childrenDrawn first n spacing p))
+  pub right-root : 0 < width (childrenDrawn first n spacing p)
+      → right p ≡ pos (lastPlace (childrenDrawn first n spacing p)) -ℤ pos (middle (childrenDrawn first n spacing p))
 
 -- the row of the positions from f to c
-abbrev pub rowDrawn : (ℕ → ℕ) → ℕ → Distance → ℕ → ℕ → Drawing
-rowDrawn first n need f c = draw need (positions n first f c)
+abbrev pub rowDrawn : (ℕ → ℕ) → ℕ → Spacing → ℕ → ℕ → Drawing
+rowDrawn first n spacing f c = draw spacing (positions n first f c)
 
 -- Children f to c, of those from f to end, are joined: each stands where its place and what is still pending put it, the contours of the row
 -- are stored, and the owners on its right contour are known.
-pub record Row (first : ℕ → ℕ) (n : ℕ) (need : Distance) (f c end default : ℕ) (w : Columns) : Type 0 where
-  pub places : (p : ℕ) → f ≤ p → p < c → w .place p +ℤ pending (w .shift) (w .change) end p ≡ pos (placeAt (rowDrawn first n need f c) (p - f))
-  pub settled : (p : ℕ) → suc p ≡ c → w .place p ≡ pos (placeAt (rowDrawn first n need f c) (p - f))
+pub record Row (first : ℕ → ℕ) (n : ℕ) (spacing : Spacing) (f c end default : ℕ) (w : Columns) : Type 0 where
+  pub places : (p : ℕ) → f ≤ p → p < c → w .place p +ℤ pending (w .shift) (w .change) end p ≡ pos (placeAt (rowDrawn first n spacing f c) (p - f))
+  pub settled : (p : ℕ) → suc p ≡ c → w .place p ≡ pos (placeAt (rowDrawn first n spacing f c) (p - f))
   pub beyond : (p : ℕ) → c ≤ p → p < end → pending (w .shift) (w .change) end p ≡ pos 0
-  pub left-steps : LeftSteps (w .left) (rowDots 0 (rowDrawn first n need f c))
-  pub right-steps : RightSteps (w .right) (rowDots 0 (rowDrawn first n need f c))
-  pub owned : Owned (w .ancestor) f end default (rowDots 0 (rowDrawn first n need f c))
+  pub left-steps : LeftSteps (w .left) (rowDots 0 (rowDrawn first n spacing f c))
+  pub right-steps : RightSteps (w .right) (rowDots 0 (rowDrawn first n spacing f c))
+  pub owned : Owned (w .ancestor) f end default (rowDots 0 (rowDrawn first n spacing f c))
 
 -- ---- offsets
 

@@ -15,7 +15,7 @@ use Rattle.level_order.specs.Fields.{FIRST, COUNT}
 use Rattle.level_order.specs.Numbered.{Numbered}
 use Rattle.level_order.proofs.Positions.{within}
 use Rattle.level_order.proofs.InOrder.{ordered}
-use Rattle.families.specs.Descent.{Reads, firstOfChildren, pastChildren}
+use Rattle.descent.specs.Descent.{Reads, firstOfChildren, pastChildren}
 
 module _ (t : List ℕ) (accepted : tableNumber t ≡ 0) {D : Distance} {work : List ℤ} (N : Numbered (treeOf t) D (nodes t) work) (p : ℕ) (h : p < nodes t) where
   abbrev first : ℕ → ℕ

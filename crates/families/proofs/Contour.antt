@@ -25,8 +25,8 @@ use Rattle.contours.proofs.Places.{row-first}
 use Rattle.contours.proofs.Steps.{row-top}
 use Rattle.contours.proofs.RowNext.{fieldsOf}
 use Rattle.contours.proofs.Bounds.{on-here, row-near, alone-near}
-use Rattle.families.specs.declared.join.Stand.{Stand}
-use Rattle.families.specs.Descent.{Modest, Level, topLevel}
+use Rattle.descent.specs.declared.Stand.{Stand}
+use Rattle.descent.specs.Descent.{Modest, Level, topLevel}
 use Rattle.families.specs.Joining.{columnsOf, occurs}
 use Rattle.families.proofs.Children.{first-reads, count-reads}
 use Rattle.families.proofs.Joining.{Joining, first, O, few, S, row, child, startAt, J, F, row-wide, small-n, row-runs, child-runs, child-left, child-right, last-at, start-at, start-here, next-last, next-bound, row-last-bound}
@@ -63,7 +63,7 @@ module _ {K : Joining} {now : List ℤ} {k : ℕ} (kept : Kept K now k) where
   pub room : 16 * nodes (K .t) ≤ length now
   room = omega (arith, K .joins .rowed .numbered .size, kept .size)
 
-  pub numbered : Numbered (treeOf (K .t)) (K .D) (nodes (K .t)) now
+  pub numbered : Numbered (treeOf (K .t)) (K .D .need) (nodes (K .t)) now
   numbered = numbered-kept (K .joins .rowed .numbered) now room (λ g p h. kept .field g p (omega arith))
 
 -- ---- places are modest
@@ -71,11 +71,11 @@ module _ {K : Joining} {now : List ℤ} {k : ℕ} (kept : Kept K now k) where
 module _ (K : Joining) where
   pub row-modest : (z : ℤ) (e : Dot) (l : ℕ) → z ≡ e .place → OnLevel e l (J K .row) → Modest z
   row-modest z e l q o =
-      omega (arith, ap natAbs q, row-near (first K) (nodes (K .t)) (O K) (K .D) (few K) (K .joins .given .high) (K .f) (K .c) (S K .some) (omega (arith, small-n K)) (omega (arith, S K .one-level, K .joins .inside)) e l o)
+      omega (arith, ap natAbs q, row-near (first K) (nodes (K .t)) (O K) (K .D) (few K) (K .joins .given .high) (K .joins .given .little) (K .f) (K .c) (S K .some) (omega (arith, small-n K)) (omega (arith, S K .one-level, K .joins .inside)) e l o)
 
   pub child-modest : (z : ℤ) (e : Dot) (l : ℕ) → z ≡ e .place → OnLevel e l (J K .child) → Modest z
   child-modest z e l q o =
-      omega (arith, ap natAbs q, start-at K, row-last-bound K, K .joins .given .high (K .c - 1) (K .c), alone-near (first K) (nodes (K .t)) (O K) (K .D) (few K) (K .joins .given .high) (width (row K)) (K .c) (startAt K) (small-n K) e l o)
+      omega (arith, ap natAbs q, start-at K, row-last-bound K, K .joins .given .high (K .c - 1) (K .c), alone-near (first K) (nodes (K .t)) (O K) (K .D) (few K) (K .joins .given .high) (K .joins .given .little) (width (row K)) (K .c) (startAt K) (small-n K) e l o)
 
 -- ---- a level
 
@@ -117,14 +117,14 @@ module _ {K : Joining} {now : List ℤ} {s : Stand} (C : Contour K now s) where
   pub last-child-position : s .e - 1 ≡ (lastOf (W .y)) .node
   last-child-position = omega (arith, W .runs-child .2)
 
-  pub moved-most : startAt K + C .k ≤ 1571328
+  pub moved-most : startAt K + C .k ≤ 2094592
   moved-most =
-      omega (arith, next-bound K, next-last K, W .moved, ap total (W .whole), total-append (W .met) (rule.meet (K .D) (C .k) (rightContour (W .x ∷ W .xs)) (leftContour (W .y ∷ W .ys))))
+      omega (arith, next-bound K, next-last K, W .moved, ap total (W .whole), total-append (W .met) (rule.meet (K .D .need) (C .k) (rightContour (W .x ∷ W .xs)) (leftContour (W .y ∷ W .ys))))
 
-  -- what can be done on the level, in the slice as it is or as the level leaves it
-  pub level : (work : List ℤ) (m : ℕ) → Kept K work m → startAt K + m ≤ 1571328 → (z : ℤ) → z ≡ pos m
+  -- what can be done on the level, in the slice as it is or as the level leaves it, where the child has been moved by r in all
+  pub level : (work : List ℤ) (m : ℕ) → Kept K work m → startAt K + m ≤ 2094592 → (r : ℕ) → r ≤ m + 1024 → (z : ℤ) → z ≡ pos r
       → Level work (pushed s z) (K .f) (K .c) (K .default)
-  level work m kept most z ez =
+  level work m kept most r near z ez =
       record {
         row = W .runs-row .0;
         child = W .runs-child .0;
@@ -191,10 +191,10 @@ module _ (K : Joining) where
         right-child = rw (C .1) at (child-right K);
         right-at = last-at K ∙ sym (T .3);
         left-at = start-here K ∙ ap pos (omega arith);
-        outer-left = K .joins .rowed .first-place ∙ ap pos (sym (row-first (first K) (nodes (K .t)) (O K) D (c - f - 1) f c (omega (arith, S K .some)) (omega (arith, small-n K)))) ∙ sym (T .4);
+        outer-left = ap pos (sym (row-first (first K) (nodes (K .t)) (O K) D (c - f - 1) f c (omega (arith, S K .some)) (omega (arith, small-n K)))) ∙ sym (T .4);
         outer-right = start-here K ∙ ap pos (omega arith);
         moved = refl;
-        whole = ap₂ (λ (u v : List (List Dot)). rule.meet D 0 (rightContour u) (leftContour v)) (T .2) (C .1);
+        whole = ap₂ (λ (u v : List (List Dot)). rule.meet (D .need) 0 (rightContour u) (leftContour v)) (T .2) (C .1);
         moves = record { row = λ p h k. sym (+ℤ-idr _); beyond = λ p h k. refl };
         passed = tt;
         marked = tt;

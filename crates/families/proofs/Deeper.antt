@@ -23,8 +23,8 @@ use Rattle.contours.proofs.Walk.{Walking, step-to, down, walk-down}
 use Rattle.contours.proofs.Walk as walk
 use Rattle.contours.proofs.RowNext.{fieldsOf}
 use Rattle.contours.proofs.Bounds.{on-here}
-use Rattle.families.specs.declared.join.Stand.{Stand}
-use Rattle.families.specs.Descent.{Threads, Steps, lower, isEnd, firstOfChildren, pastChildren}
+use Rattle.descent.specs.declared.Stand.{Stand}
+use Rattle.descent.specs.Descent.{Threads, Steps, lower, isEnd, firstOfChildren, pastChildren}
 use Rattle.families.specs.Joining.{columnsOf}
 use Rattle.families.proofs.Children.{first-value, past-value}
 use Rattle.families.proofs.Joining.{Joining, first, O, J, F}
@@ -62,7 +62,7 @@ module _ {K : Joining} {now : List ℤ} {s : Stand} (C : Contour K now s) where
   pub same-field : (g p : ℕ) → g < ANCESTOR → get after g p ≡ get (K .before) g p
   same-field = kept-next C .field
 
-  abbrev numbered-after : Numbered (treeOf (K .t)) (K .D) (nodes (K .t)) after
+  abbrev numbered-after : Numbered (treeOf (K .t)) (K .D .need) (nodes (K .t)) after
   numbered-after = numbered (kept-next C)
 
   pub first-a : firstOfChildren after (s .a) ≡ first K (s .a)
@@ -146,7 +146,7 @@ module _ {K : Joining} {now : List ℤ} {s : Stand} (C : Contour K now s) where
 
     pub steps-below : Steps after (pushed s z)
     steps-below =
-        let L = level contour-lower after (moved C) (kept-next C) (moved-bound C) z ez in
+        let L = level contour-lower after (moved C) (kept-next C) (moved-bound C) (moved C) (omega arith) z ez in
         record {
           right = L .right-modest;
           left = L .left-modest;

@@ -7,7 +7,7 @@ use native.Mathlib.Nat.{le-refl, le-trans}
 use native.Mathlib.Omega.{arith}
 use lib.IntN.{ℤ, pos}
 use lib.ListN.{length, drop}
-use Rattle.distance.specs.Needed.{Distance}
+use Rattle.rule.specs.Join.{Spacing}
 use Rattle.tree.specs.Table.{nodes}
 use Rattle.tree.specs.Forest.{treeOf}
 use Rattle.tree.proofs.Counting.{below-or-not, from-more}
@@ -24,9 +24,9 @@ use Rattle.contours.proofs.OffsetsAll.{offsets-all}
 use Rattle.level_order.proofs.Cells.{put-length, put-same, put-field, put-position, put-rest}
 
 -- the families of the positions from p on are drawn, and those before it are as the numbering left them
-pub record DrawnFrom (t : List ℕ) (D : Distance) (p : ℕ) (before work : List ℤ) : Type 0 where
+pub record DrawnFrom (t : List ℕ) (D : Spacing) (p : ℕ) (before work : List ℤ) : Type 0 where
   pub inside : p ≤ nodes t
-  pub numbered : Numbered (treeOf t) D (nodes t) work
+  pub numbered : Numbered (treeOf t) (D .need) (nodes t) work
   pub gathered : (g q : ℕ) → SHIFT ≤ g → g ≤ CHANGE → q < firstAt (treeOf t) p → get work g q ≡ pos 0
   pub own : (z : ℕ) → z < firstAt (treeOf t) p → get work ANCESTOR z ≡ pos z
   pub below : (z : ℕ) → firstAt (treeOf t) p ≤ z → z < nodes t → (k : ℕ) × (firstAt (treeOf t) p ≤ k) × (get work ANCESTOR z ≡ pos k)
@@ -36,7 +36,7 @@ pub record DrawnFrom (t : List ℕ) (D : Distance) (p : ℕ) (before work : List
   pub size : length work ≡ length before
   pub rest : drop (16 * nodes t) work ≡ drop (16 * nodes t) before
 
-module _ (t : List ℕ) (D : Distance) (O : Ordered (firstAt (treeOf t)) (nodes t)) where
+module _ (t : List ℕ) (D : Spacing) (O : Ordered (firstAt (treeOf t)) (nodes t)) where
   abbrev first : ℕ → ℕ
   first = firstAt (treeOf t)
 
@@ -45,7 +45,7 @@ module _ (t : List ℕ) (D : Distance) (O : Ordered (firstAt (treeOf t)) (nodes 
 
   -- ---- at the start
 
-  pub families-start : {before : List ℤ} → Numbered (treeOf t) D (nodes t) before → Fresh (nodes t) before → DrawnFrom t D (nodes t) before before
+  pub families-start : {before : List ℤ} → Numbered (treeOf t) (D .need) (nodes t) before → Fresh (nodes t) before → DrawnFrom t D (nodes t) before before
   families-start N F =
       record {
         inside = le-refl n;

@@ -9,7 +9,7 @@ use native.Mathlib.Omega.{arith}
 use lib.IntN.{ℤ, pos, negsuc, _+ℤ_, _-ℤ_, natAbs}
 use lib.ListN.{length, drop}
 use lib.Signed.{nonNeg}
-use Rattle.distance.specs.Needed.{Distance}
+use Rattle.rule.specs.Join.{Spacing}
 use Rattle.tree.specs.Numbers.{is}
 use Rattle.tree.specs.Table.{nodes}
 use Rattle.tree.proofs.Counting.{is-same}
@@ -44,7 +44,7 @@ middle-half d e =
     plain : (x : ℕ) → 0 + x ≡ x
     plain x = omega arith
 
-module _ {t : List ℕ} {D : Distance} {p : ℕ} {before : List ℤ} (G : Given t D) (R : Ready t D p before) where
+module _ {t : List ℕ} {D : Spacing} {p : ℕ} {before : List ℤ} (G : Given t D) (R : Ready t D p before) where
   abbrev F : ℕ
   F = f G R
 
@@ -73,13 +73,13 @@ module _ {t : List ℕ} {D : Distance} {p : ℕ} {before : List ℤ} (G : Given 
       let same : E - suc F ≡ E - 1 - F = omega arith in
       last-place row (E - suc F) wide ∙ ap (placeAt row) same
 
-  last-bound : lastPlace row ≤ 1571328
+  last-bound : lastPlace row ≤ 2094592
   last-bound =
-      row-bound (first G R) N (O G R) D few (G .high) F E (R .some) (fits G R) (one-level G R)
+      row-bound (first G R) N (O G R) D few (G .high) (G .little) F E (R .some) (fits G R) (one-level G R)
 
-  each-bound : (q : ℕ) → F ≤ q → q < E → placeAt row (q - F) ≤ 1571328
+  each-bound : (q : ℕ) → F ≤ q → q < E → placeAt row (q - F) ≤ 2094592
   each-bound q h k =
-      place-bound (first G R) N (O G R) D few (G .high) F E (R .some) (fits G R) (one-level G R)
+      place-bound (first G R) N (O G R) D few (G .high) (G .little) F E (R .some) (fits G R) (one-level G R)
       (q - F) (omega arith)
 
   module _ (mid : List ℤ) (A : AllJoined t D F E (work G R) mid) where
@@ -105,7 +105,7 @@ module _ {t : List ℕ} {D : Distance} {p : ℕ} {before : List ℤ} (G : Given 
           changes = λ q h k. omega (arith, A .rowed .small CHANGE q (omega arith) (omega arith) h k, last-bound);
           moves = λ q h k.
               let r = A .rowed .stood q h k in
-              move-bound (pending (get mid SHIFT) (get mid CHANGE) E q) (r .0) (placeAt row (q - F)) 1572864
+              move-bound (pending (get mid SHIFT) (get mid CHANGE) E q) (r .0) (placeAt row (q - F)) 2094592
               (ap (λ (z : ℤ). z +ℤ pending (get mid SHIFT) (get mid CHANGE) E q) (sym (r .2)) ∙ A .rowed .row .places q h k)
               (omega (arith, r .1, last-bound)) (omega (arith, each-bound q h k));
         }

@@ -7,12 +7,11 @@ use native.Mathlib.Nat.{le-refl}
 use native.Mathlib.Omega.{arith}
 use lib.IntN.{ℤ, pos, _+ℤ_, _-ℤ_, natAbs}
 use lib.ListN.{length}
-use Rattle.distance.specs.Needed.{Distance}
 use Rattle.tree.specs.Table.{nodes}
 use Rattle.tree.specs.Forest.{Forest, treeOf}
 use Rattle.tree.proofs.Counting.{All}
 use Rattle.rule.specs.Drawing.{none, width, placeAt, middle, Dot, dots, rowDots, lastOf}
-use Rattle.rule.specs.Join.{above0, alone}
+use Rattle.rule.specs.Join.{Spacing, above0, added, alone}
 use Rattle.rule.specs.Join as rule
 use Rattle.rule.specs.Rule.{draw}
 use Rattle.tree.proofs.Joined.{Some}
@@ -47,8 +46,9 @@ gather-none shift change f end (suc m) s c h =
     (ap₂ _+ℤ_ (ap₂ _+ℤ_ (r .0) a) (ap₂ _+ℤ_ (r .1) b), ap₂ _+ℤ_ (r .1) b)
 
 -- a row of one child
-module _ (first : ℕ → ℕ) (n : ℕ) (O : Ordered first n) (D : Distance) (f : ℕ) (inside : f < n) where
+module _ (first : ℕ → ℕ) (n : ℕ) (O : Ordered first n) (D : Spacing) (f : ℕ) (inside : f < n) where
   pub row-one : rowDrawn first n D f (suc f) ≡ alone f 0 (childrenDrawn first n D f)
+  unfolding added
   row-one =
       row-more first n O D f f (le-refl f) inside
       ∙ ap (λ (g : Forest). rule.join D (draw D g) f (childrenDrawn first n D f)) (run-nil first n O f f (le-refl f))
@@ -82,12 +82,12 @@ module _ (first : ℕ → ℕ) (n : ℕ) (O : Ordered first n) (D : Distance) (f
 
     pub owned-one : end ≤ first f → ancestor f ≡ pos f → Owned ancestor f end f levels
     owned-one h e =
-        let C = alone-child D 0 (width (childrenDrawn first n D f)) f 0 (childrenDrawn first n D f) (row-drawOnto D none (family first n f) (row-none D)) in (
+        let C = alone-child (D .need) 0 (width (childrenDrawn first n D f)) f 0 (childrenDrawn first n D f) (row-drawOnto D none (family first n f) row-none) in (
           inl (e ∙ ap pos (omega arith)),
           owned-below (first f) (first (suc f)) deeper h (within first n O (suc f) inside) (runs-alone first n O D 0 f 0 inside .4) (C .some .1) (C .tags .1),
         )
 
-module _ {t : List ℕ} {D : Distance} {p : ℕ} {before : List ℤ} (G : Given t D) (R : Ready t D p before) where
+module _ {t : List ℕ} {D : Spacing} {p : ℕ} {before : List ℤ} (G : Given t D) (R : Ready t D p before) where
   abbrev pub first : ℕ → ℕ
   first = firstAt (treeOf t)
 
@@ -125,7 +125,7 @@ module _ {t : List ℕ} {D : Distance} {p : ℕ} {before : List ℤ} (G : Given 
   pub other : (k q : ℕ) → k < 16 → (k ≡ PLACE → ⊥) → get work k q ≡ get before k q
   other k q h d = put-field before PLACE f (pos 0) (omega arith) k q h d
 
-  pub start-numbered : Numbered (treeOf t) D n work
+  pub start-numbered : Numbered (treeOf t) (D .need) n work
   start-numbered =
       numbered-kept (R .numbered) work (omega (arith, room, put-length before PLACE f (pos 0))) (λ g q h. other g q (omega arith) (λ e. omega (arith, e)))
 
@@ -181,7 +181,7 @@ module _ {t : List ℕ} {D : Distance} {p : ℕ} {before : List ℤ} (G : Given 
       S = subtrees f (le-refl f) (R .some)
 
       filled : All Some (rowDots 0 (childrenDrawn first n D f))
-      filled = row-drawOnto D none (family first n f) (row-none D) .some
+      filled = row-drawOnto D none (family first n f) row-none .some
 
   start-rowed : Rowed t D f (suc f) end f work
   start-rowed =
@@ -197,7 +197,6 @@ module _ {t : List ℕ} {D : Distance} {p : ℕ} {before : List ℤ} (G : Given 
         default-low = le-refl f;
         default-high = omega arith;
         row = start-row;
-        first-place = at-start;
         stood = λ q h k. (0, omega arith, place-now q h k);
         small = λ g q l r h k. omega (arith, ap natAbs (gathered g q l r h k));
       }
@@ -206,9 +205,12 @@ module _ {t : List ℕ} {D : Distance} {p : ℕ} {before : List ℤ} (G : Given 
   family-begun =
       record {
         rowed = start-rowed;
-        others = λ q h k. record { subtree = subtrees q (omega (arith, h)) k; stale = λ z s. wait q h k z s };
+        others = λ q h k. record { subtree = subtrees q (omega (arith, h)) k; own = own-now q k; stale = λ z s. wait q h k z s };
       }
     where
+      own-now : (q : ℕ) → q < end → get work ANCESTOR q ≡ pos q
+      own-now q k = other ANCESTOR q (omega arith) (λ e. omega (arith, e)) ∙ R .own q k
+
       wait : (q : ℕ) → f < q → q < end → (z : ℕ) → 1 ≤ occurs t (first q) (first (suc q)) z → Outside f end (get work ANCESTOR z)
       wait q h k z s =
           stale-at first n O D f f-inside (get work ANCESTOR) end stale z

@@ -4,6 +4,7 @@ use mathlib.Core.Logic.{_⊎_, inl, inr, ⊎-elim}
 use mathlib.Core.Bool.{Bool, true, false, cond, _||_, true≢false}
 use mathlib.Core.List.{List, [], _∷_}
 use Prim.Native.Nat.{ℕ, suc, _+_, _-_, _*_, _≤_, _<_}
+use native.Mathlib.Nat.{not-suc-le-zero}
 use native.Mathlib.Omega.{arith}
 use borrow.Author.Tests.{lt-ltb, le-ltb, ne-eqb}
 use lib.Dec.{ltb}
@@ -11,8 +12,9 @@ use lib.IntN.{ℤ, pos, natAbs, _+ℤ_, _-ℤ_}
 use lib.ListN.{length}
 use Rattle.tree.specs.Table.{nodes}
 use Rattle.tree.proofs.Counting.{All, is-cases}
-use Rattle.rule.specs.Drawing.{Dot, lastPlace, lastOf}
-use Rattle.rule.specs.Join.{total}
+use Rattle.rule.specs.Drawing.{Drawing, none, at, width, Dot, lastPlace, lastOf}
+use Rattle.rule.specs.Join.{Meeting, total, added, meetings}
+use Rattle.rule.proofs.Significant.{added-moved}
 use Rattle.level_order.specs.Fields.{get, put, PLACE, LEFT, RIGHT, ANCESTOR, SHIFT, CHANGE}
 use Rattle.level_order.proofs.Fielded.{numbered-kept}
 use Rattle.level_order.proofs.Cells.{put-length, put-same, put-field, put-position, put-rest}
@@ -21,10 +23,10 @@ use Rattle.contours.specs.Contours.{LeftSteps, RightSteps}
 use Rattle.contours.proofs.Walk.{Fields}
 use Rattle.contours.proofs.WalkEnds.{Ended}
 use Rattle.contours.proofs.RowNext.{fieldsOf, row-next}
-use Rattle.families.specs.declared.join.Stand.{Stand}
-use Rattle.families.specs.Descent.{lower, isEnd, firstOfChildren, pastChildren, threaded, newDefault}
+use Rattle.descent.specs.declared.Stand.{Stand}
+use Rattle.descent.specs.Descent.{lower, isEnd, firstOfChildren, pastChildren, threaded, newDefault}
 use Rattle.families.specs.Joining.{columnsOf, Rowed, Untouched, Joined}
-use Rattle.families.proofs.Joining.{Joining, first, O, S, row, startAt, J, F, spaced-row, small-n, occurs-next, apart, row-on, start-at, next-last}
+use Rattle.families.proofs.Joining.{Joining, first, O, S, row, child, startAt, J, F, row-wide, spaced-row, small-n, occurs-next, apart, row-on, start-at, next-last}
 use Rattle.families.proofs.Contour.{Kept, Contour, pushed}
 use Rattle.families.proofs.Meeting.{moved, next}
 use Rattle.families.proofs.Deeper.{first-a, first-b, past-e, rows-below, children-below}
@@ -33,7 +35,7 @@ use Rattle.families.proofs.Threaded.{Ends, ends-both, ends-child, ends-
 
 -- ---- which of the three ends
 
-module _ {K : Joining} {now : List ℤ} {s : Stand} (C : Contour K now s) (z : ℤ) (ez : z ≡ pos (moved C)) where
+module _ {K : Joining} {now : List ℤ} {s : Stand} (C : Contour K now s) (extra : ℕ) (z : ℤ) (ez : z ≡ pos (moved C + extra)) where
   abbrev after : List ℤ
   after = next C
 
@@ -46,22 +48,22 @@ module _ {K : Joining} {now : List ℤ} {s : Stand} (C : Contour K now s) (z : �
   default-by p q = cond p (K .default) (cond q (K .c) (K .default))
 
   by : (p q : Bool) → ltb (firstOfChildren after (s .a)) (firstOfChildren after (s .b)) ≡ p → ltb (firstOfChildren after (s .b)) (pastChildren after (s .e - 1)) ≡ q
-      → Ends K after (thread p q) (moved C) (default-by p q) → Ends K after (threaded after (pushed s z)) (moved C) (newDefault after (pushed s z) (K .c) (K .default))
-  by p q ep eq E = subst₂ (λ (x y : Bool). Ends K after (thread x y) (moved C) (default-by x y)) (sym ep) (sym eq) E
+      → Ends K after (thread p q) (moved C + extra) extra (default-by p q) → Ends K after (threaded after (pushed s z)) (moved C + extra) extra (newDefault after (pushed s z) (K .c) (K .default))
+  by p q ep eq E = subst₂ (λ (x y : Bool). Ends K after (thread x y) (moved C + extra) extra (default-by x y)) (sym ep) (sym eq) E
 
-  pub ends : isEnd after (pushed s z) ≡ true → Ends K after (threaded after (pushed s z)) (moved C) (newDefault after (pushed s z) (K .c) (K .default))
+  pub ends : isEnd after (pushed s z) ≡ true → Ends K after (threaded after (pushed s z)) (moved C + extra) extra (newDefault after (pushed s z) (K .c) (K .default))
   ends stop =
       ⊎-elim
       (λ X. ⊎-elim
-      (λ Y. by false false (row-ends (X .1)) (child-ends (Y .1)) (ends-both C (X .0) (Y .0)))
+      (λ Y. by false false (row-ends (X .1)) (child-ends (Y .1)) (ends-both C extra (X .0) (Y .0)))
       (λ Y.
       by false true (row-ends (X .1)) (lt-ltb (firstOfChildren after (s .b)) (pastChildren after (s .e - 1)) (omega (arith, first-b C, past-e C, Y .3)))
-      (ends-row C z ez (X .0) (Y .0) (Y .1) (Y .2)))
+      (ends-row C extra z ez (X .0) (Y .0) (Y .1) (Y .2)))
       (children-below C))
       (λ X. ⊎-elim
       (λ Y.
       by true false (lt-ltb (firstOfChildren after (s .a)) (firstOfChildren after (s .b)) (omega (arith, first-a C, first-b C, X .3))) (child-ends (Y .1))
-      (ends-child C z ez (Y .0)))
+      (ends-child C extra z ez (Y .0)))
       (λ Y. absurd (true≢false (sym stop ∙ both-differ (X .3) (Y .3))))
       (children-below C))
       (rows-below C)
@@ -79,7 +81,21 @@ module _ {K : Joining} {now : List ℤ} {s : Stand} (C : Contour K now s) (z : �
 
 -- ---- the row with one child more
 
-module _ (K : Joining) (after u : List ℤ) (k d : ℕ) (kept : Kept K after k) (E : Ends K after u k d) (v : ℤ) (ev : v ≡ pos (startAt K + k)) where
+-- the meetings of the whole walk
+abbrev pub meetingsOf : Joining → List Meeting
+meetingsOf K = meetings (K .D .need) (row K) (K .c) (child K)
+
+-- what is added where the conflicts moved the child by k
+pub added-at-end : (K : Joining) (k : ℕ) → k ≡ total (meetingsOf K) → cond (ltb 0 k) (K .D .extra) 0 ≡ added (K .D .extra) (meetingsOf K)
+added-at-end K k e = ap (λ (m : ℕ). cond (ltb 0 m) (K .D .extra) 0) e ∙ sym (go (row K) (omega (arith, row-wide K, S K .some)))
+  where
+    go : (d : Drawing) → 0 < width d → added (K .D .extra) (meetings (K .D .need) d (K .c) (child K)) ≡ cond (ltb 0 (total (meetings (K .D .need) d (K .c) (child K)))) (K .D .extra) 0
+    go none h = absurd (not-suc-le-zero h)
+    go (at u x b a) h = added-moved (K .D .need) (K .D .extra) u x b a (K .c) (child K)
+
+-- of k + e that the child moved, e was added after the walk
+module _ (K : Joining) (after u : List ℤ) (k e d : ℕ) (kept : Kept K after k) (E : Ends K after u (k + e) e d) (added-here : e ≡ added (K .D .extra) (meetingsOf K))
+    (v : ℤ) (ev : v ≡ pos (startAt K + (k + e))) where
   open Joining K using (t, D, f, c, end, default, before)
 
   abbrev final : List ℤ
@@ -103,7 +119,7 @@ module _ (K : Joining) (after u : List ℤ) (k d : ℕ) (kept : Kept K after k) 
   other-place p q =
       put-position u PLACE c v (omega arith) PLACE p (omega arith) q ∙ E .field PLACE p (omega arith) (inl (omega arith)) ∙ kept .field PLACE p (omega arith)
 
-  new-place : get final PLACE c ≡ pos (startAt K + k)
+  new-place : get final PLACE c ≡ pos (startAt K + (k + e))
   new-place = put-same u PLACE c v (omega (arith, room, small-n K)) ∙ ev
 
   column : (g : ℕ) → LEFT ≤ g → g ≤ RIGHT → get u g ≡ get final g
@@ -127,10 +143,10 @@ module _ (K : Joining) (after u : List ℤ) (k d : ℕ) (kept : Kept K after k) 
       later : (g : ℕ) → RIGHT < g → g < 16 → get after g ≡ get final g
       later g l h = fun-ext (λ p. sym (from-after g p l h))
 
-  ended : Ended (J K) (F K) (fieldsOf (columnsOf final)) (get final LEFT) (get final RIGHT) k d
+  ended : Ended (J K) (F K) (fieldsOf (columnsOf final)) (get final LEFT) (get final RIGHT) (k + e) (added (D .extra) (meetingsOf K)) d
   ended =
-      subst₂ (λ (l r : ℕ → ℤ). Ended (J K) (F K) (fieldsOf (columnsOf final)) l r k d) lefts rights
-      (subst (λ (g : Fields). Ended (J K) (F K) g (get u LEFT) (get u RIGHT) k d) fields (E .ended))
+      subst₂ (λ (l r : ℕ → ℤ). Ended (J K) (F K) (fieldsOf (columnsOf final)) l r (k + e) (added (D .extra) (meetingsOf K)) d) lefts rights
+      (subst₂ (λ (g : Fields) (a : ℕ). Ended (J K) (F K) g (get u LEFT) (get u RIGHT) (k + e) a d) fields added-here (E .ended))
 
   -- the owners of the row are as they were
   owned-row : Owned (get final ANCESTOR) f end default (J K .row)
@@ -152,7 +168,7 @@ module _ (K : Joining) (after u : List ℤ) (k d : ℕ) (kept : Kept K after k) 
   next-row : Row (first K) (nodes t) D f (suc c) end d (columnsOf final)
   next-row =
       let T = E .stepped in
-      row-next (first K) (nodes t) (O K) D f c end default (S K .some) (K .joins .inside) (S K .fits) (columnsOf before) (columnsOf final) k d
+      row-next (first K) (nodes t) (O K) D f c end default (S K .some) (K .joins .inside) (S K .fits) (columnsOf before) (columnsOf final) (k + e) d
       (K .joins .rowed .row) ended new-place other-place
       (subst (λ (l : ℕ → ℤ). LeftSteps l (J K .row)) lefts (T .left-row))
       (subst (λ (l : ℕ → ℤ). LeftSteps l (J K .child)) lefts (T .left-child))
@@ -161,7 +177,7 @@ module _ (K : Joining) (after u : List ℤ) (k d : ℕ) (kept : Kept K after k) 
       owned-row
 
   -- where the row ends now
-  grown : lastPlace (rowDrawn (first K) (nodes t) D f (suc c)) ≡ lastPlace (row K) + D (c - 1) c + k
+  grown : lastPlace (rowDrawn (first K) (nodes t) D f (suc c)) ≡ lastPlace (row K) + D .need (c - 1) c + (k + e)
   grown = omega (arith, next-last K, start-at K, E .ended .total)
 
   rowed : Rowed t D f (suc c) end d final
@@ -172,10 +188,9 @@ module _ (K : Joining) (after u : List ℤ) (k d : ℕ) (kept : Kept K after k) 
         default-low = E .default-low;
         default-high = E .default-high;
         row = next-row;
-        first-place = other-place f (λ e. omega (arith, e, S K .some)) ∙ K .joins .rowed .first-place;
         stood = λ p h g. ⊎-elim
-            (λ e. (startAt K + k, omega (arith, grown, start-at K), ap (get final PLACE) (e .0) ∙ new-place))
-            (λ e. let r = K .joins .rowed .stood p h (before-c p g (e .0)) in (r .0, omega (arith, r .1, grown), other-place p (e .0) ∙ r .2))
+            (λ q. (startAt K + (k + e), omega (arith, grown, start-at K), ap (get final PLACE) (q .0) ∙ new-place))
+            (λ q. let r = K .joins .rowed .stood p h (before-c p g (q .0)) in (r .0, omega (arith, r .1, grown), other-place p (q .0) ∙ r .2))
             (is-cases p c);
         small = λ g p l r h q. omega (arith, ap natAbs (from-after g p (omega arith) (omega arith)), kept .small g p l r h q, grown);
       }

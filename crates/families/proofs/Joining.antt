@@ -5,7 +5,6 @@ use mathlib.Core.List.{List}
 use Prim.Native.Nat.{ℕ, suc, _+_, _-_, _≤_, _<_}
 use native.Mathlib.Omega.{arith}
 use lib.IntN.{ℤ, pos, _+ℤ_}
-use Rattle.distance.specs.Needed.{Distance}
 use Rattle.tree.specs.Table.{nodes}
 use Rattle.tree.specs.Forest.{Forest, nil, node, treeOf, preorder}
 use Rattle.tree.specs.Numbers.{count}
@@ -13,7 +12,7 @@ use Rattle.tree.proofs.Counting.{All}
 use Rattle.tree.proofs.Stands.{accepted-numbers}
 use Rattle.tree.proofs.Joined.{Some}
 use Rattle.rule.specs.Drawing.{Drawing, none, width, placeAt, lastPlace, Dot, rowDots}
-use Rattle.rule.specs.Join.{start, alone, total, meetings}
+use Rattle.rule.specs.Join.{Spacing, start, alone, movement, meetings}
 use Rattle.rule.specs.Join as rule
 use Rattle.rule.proofs.Names.{names-draw, nodes-dots, nodes-rowDots}
 use Rattle.rule.proofs.Spacing.{Row as RuleRow, Child, row-drawOnto, row-none}
@@ -35,7 +34,7 @@ use Rattle.contours.proofs.RowNext.{fieldsOf, the-width, rule-row, rule-child, 
 use Rattle.contours.proofs.Bounds.{row-bound}
 use Rattle.families.specs.Joining.{columnsOf, occurs, Given, Siblings, Rowed, Waiting}
 
-pub record Joins (t : List ℕ) (D : Distance) (f c end default : ℕ) (before : List ℤ) : Type 0 where
+pub record Joins (t : List ℕ) (D : Spacing) (f c end default : ℕ) (before : List ℤ) : Type 0 where
   pub given : Given t D
   pub rowed : Rowed t D f c end default before
   pub waiting : Waiting t D f end c before
@@ -44,7 +43,7 @@ pub record Joins (t : List ℕ) (D : Distance) (f c end default : ℕ) (before :
 -- the same, with what it speaks of
 pub record Joining : Type 0 where
   pub t : List ℕ
-  pub D : Distance
+  pub D : Spacing
   pub f : ℕ
   pub c : ℕ
   pub end : ℕ
@@ -52,7 +51,7 @@ pub record Joining : Type 0 where
   pub before : List ℤ
   pub joins : Joins t D f c end default before
 
-abbrev pub joining : {t : List ℕ} {D : Distance} {f c end default : ℕ} {before : List ℤ} → Joins t D f c end default before → Joining
+abbrev pub joining : {t : List ℕ} {D : Spacing} {f c end default : ℕ} {before : List ℤ} → Joins t D f c end default before → Joining
 joining {t} {D} {f} {c} {end} {default} {before} H =
     record { t = t; D = D; f = f; c = c; end = end; default = default; before = before; joins = H }
 
@@ -82,7 +81,7 @@ module _ (K : Joining) where
   child = childrenDrawn first n D c
 
   abbrev pub startAt : ℕ
-  startAt = start D row c
+  startAt = start (D .need) row c
 
   -- the join as the walk has it, and the fields that it starts from
   abbrev pub J : Join
@@ -94,10 +93,10 @@ module _ (K : Joining) where
   pub row-wide : width row ≡ c - f
   row-wide = the-width first n O D f c end default (S .some) (K .joins .inside) (S .fits)
 
-  pub spaced-row : RuleRow D (width row) (J .row)
+  pub spaced-row : RuleRow (D .need) (width row) (J .row)
   spaced-row = rule-row first n O D f c end default (S .some) (K .joins .inside) (S .fits)
 
-  pub spaced-child : Child D (width row) (J .child)
+  pub spaced-child : Child (D .need) (width row) (J .child)
   spaced-child = rule-child first n O D f c end default (S .some) (K .joins .inside) (S .fits)
 
   pub small-n : c < n
@@ -133,7 +132,7 @@ module _ (K : Joining) where
   child-runs = runs-alone first n O D (width row) c startAt small-n
 
   below-some : All Some (rowDots 0 child)
-  below-some = row-drawOnto D none (family first n c) (row-none D) .some
+  below-some = row-drawOnto D none (family first n c) row-none .some
 
   pub child-left : LeftSteps (get before LEFT) (J .child)
   child-left =
@@ -152,28 +151,28 @@ module _ (K : Joining) where
       K .joins .rowed .row .settled (c - 1) (omega (arith, S .some))
       ∙ ap pos (sym (last-place row (c - 1 - f) (omega (arith, row-wide, S .some))))
 
-  pub start-at : startAt ≡ lastPlace row + D (c - 1) c
+  pub start-at : startAt ≡ lastPlace row + D .need (c - 1) c
   start-at =
-      start-place D first row f c c (c - f - 1) (rw names-draw (laid-run first n O f c (omega (arith, S .some)) (omega (arith, small-n))))
+      start-place (D .need) first row f c c (c - f - 1) (rw names-draw (laid-run first n O f c (omega (arith, S .some)) (omega (arith, small-n))))
       (omega (arith, row-wide, S .some))
-      ∙ ap (λ (k : ℕ). k + D (c - 1) c) (sym (last-place row (c - f - 1) (omega (arith, row-wide, S .some))))
+      ∙ ap (λ (k : ℕ). k + D .need (c - 1) c) (sym (last-place row (c - f - 1) (omega (arith, row-wide, S .some))))
 
   -- what the child needs from the one before it
-  pub need-here : get before NEED c ≡ pos (D (c - 1) c)
+  pub need-here : get before NEED c ≡ pos (D .need (c - 1) c)
   need-here = needed-at (K .joins .rowed .numbered) c (omega (arith, S .some)) small-n
 
   pub start-here : get before PLACE (c - 1) +ℤ get before NEED c ≡ pos startAt
   start-here = ap₂ _+ℤ_ last-at need-here ∙ ap pos (sym start-at)
 
-  pub next-last : lastPlace (rowDrawn first n D f (suc c)) ≡ startAt + total (meetings D row c child)
+  pub next-last : lastPlace (rowDrawn first n D f (suc c)) ≡ startAt + movement (D .extra) (meetings (D .need) row c child)
   next-last =
       last-place (rowDrawn first n D f (suc c)) (c - f) (row-width first n O D (suc (c - f)) f (suc c) (omega (arith, S .some)) small-n)
       ∙ ap (λ (d : Drawing). placeAt d (c - f)) (row-more first n O D f c (omega (arith, S .some)) small-n)
       ∙ ap (placeAt (rule.join D row c child)) (sym row-wide)
       ∙ join-new D row c child
 
-  pub next-bound : lastPlace (rowDrawn first n D f (suc c)) ≤ 1571328
-  next-bound = row-bound first n O D few (K .joins .given .high) f (suc c) (omega (arith, S .some)) small-n (omega (arith, S .one-level, K .joins .inside))
+  pub next-bound : lastPlace (rowDrawn first n D f (suc c)) ≤ 2094592
+  next-bound = row-bound first n O D few (K .joins .given .high) (K .joins .given .little) f (suc c) (omega (arith, S .some)) small-n (omega (arith, S .one-level, K .joins .inside))
 
-  pub row-last-bound : lastPlace row ≤ 1571328
-  row-last-bound = row-bound first n O D few (K .joins .given .high) f c (S .some) (omega (arith, small-n)) (omega (arith, S .one-level, K .joins .inside))
+  pub row-last-bound : lastPlace row ≤ 2094592
+  row-last-bound = row-bound first n O D few (K .joins .given .high) (K .joins .given .little) f c (S .some) (omega (arith, small-n)) (omega (arith, S .one-level, K .joins .inside))

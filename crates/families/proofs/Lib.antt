@@ -1,10 +1,10 @@
 -- Why the engine's families are the rule's: the slice's small steps, one join from the top level to the row with one child more, and the
 -- loops over the children and over the families. Stands on `contours`, as whose rows and subtrees the slice is read; `layout` uses it.
-pub mod OwnerOf
 pub mod Children
 pub mod Joining
 pub mod Contour
 pub mod Meeting
+pub mod Worked
 pub mod Deeper
 pub mod Stale
 pub mod Threaded

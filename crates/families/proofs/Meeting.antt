@@ -23,12 +23,12 @@ use Rattle.contours.specs.Rows.{Outside, Owned}
 use Rattle.contours.proofs.Gathered.{Met}
 use Rattle.contours.proofs.Walk.{Fields, Walking, Turned, amount, owner, metNow, whole-now, moved-now}
 use Rattle.contours.proofs.RowNext.{fieldsOf}
-use Rattle.families.specs.declared.join.Stand.{Stand}
+use Rattle.descent.specs.declared.Stand.{Stand}
 use Rattle.shifts.specs.Shifts.{shared}
-use Rattle.families.specs.Descent.{ownerOf}
-use Rattle.families.specs.Descent.{tooClose, noted, worked}
+use Rattle.descent.specs.Descent.{ownerOf}
+use Rattle.descent.specs.Descent.{tooClose, noted, worked}
 use Rattle.families.specs.Joining.{columnsOf, occurs}
-use Rattle.families.proofs.OwnerOf.{owner-child, owner-default}
+use Rattle.descent.proofs.OwnerOf.{owner-child, owner-default}
 use Rattle.shifts.proofs.Shared.{shared-length, shared-position, shared-field, shared-rest, shared-met, shared-grown}
 use Rattle.families.proofs.Joining.{Joining, S, row, startAt, J, F, row-wide, spaced-row, small-n, apart, row-on, child-on, next-last, next-bound}
 use Rattle.families.proofs.Contour.{Kept, Contour, standOf, room, numbered, last-row-on, last-child-on, b-few, e-few, last-position, last-child-position}
@@ -143,12 +143,12 @@ module _ {K : Joining} {now : List ℤ} {s : Stand} (C : Contour K now s) where
       ∙ mid-field ANCESTOR w (omega arith)
 
   -- what the node at b needs from the one at b - 1
-  pub need-now : get now NEED (s .b) ≡ pos (D (s .b - 1) (s .b))
+  pub need-now : get now NEED (s .b) ≡ pos (D .need (s .b - 1) (s .b))
   need-now = needed-at (numbered (C .kept)) (s .b) (omega (arith, W .runs-row .0)) (b-few C)
 
   same-close : close ≡ amount W
   same-close =
-      let d = D (s .b - 1) (s .b) in
+      let d = D .need (s .b - 1) (s .b) in
       ap₂ (λ (y z : ℤ). above0 ((s .right +ℤ y) -ℤ (s .left +ℤ z))) need-now (C .moved)
       ∙ ap above0 (parts-eq ((s .right +ℤ pos d) -ℤ (s .left +ℤ pos (C .k))) (pos d -ℤ ((s .left +ℤ pos (C .k)) -ℤ s .right))
       (omega (
@@ -182,14 +182,14 @@ module _ {K : Joining} {now : List ℤ} {s : Stand} (C : Contour K now s) where
       same-change = fun-ext (λ p. next-field CHANGE p (omega arith) (λ e. omega arith))
 
   -- the child ends before the widest row does
-  pub moved-bound : startAt K + moved ≤ 1571328
+  pub moved-bound : startAt K + moved ≤ 2094592
   moved-bound =
       omega (
         arith,
         next-bound K,
         next-last K,
         ap total (whole-now W),
-        total-append (metNow W) (rule.meet D (C .k + amount W) (rightContour (W .xs)) (leftContour (W .ys))),
+        total-append (metNow W) (rule.meet (D .need) (C .k + amount W) (rightContour (W .xs)) (leftContour (W .ys))),
         moved-now W,
         moved-same,
       )

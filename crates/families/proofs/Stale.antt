@@ -19,7 +19,7 @@ use Rattle.contours.specs.Rows.{Outside}
 use Rattle.contours.proofs.Runs.{Runs}
 use Rattle.contours.proofs.Walk.{Walking, reach, unmarked-now}
 use Rattle.contours.proofs.RowNext.{fieldsOf}
-use Rattle.families.specs.declared.join.Stand.{Stand}
+use Rattle.descent.specs.declared.Stand.{Stand}
 use Rattle.families.specs.Joining.{columnsOf, occurs}
 use Rattle.families.proofs.Joining.{Joining, first, O, row, child, startAt, J, F, spaced-child, small-n, child-on}
 use Rattle.families.proofs.Contour.{Contour, standOf, split-child}

@@ -16,8 +16,8 @@ use Rattle.contours.proofs.Steps.{left-frame, right-frame, all-inner, inner-wea
 use Rattle.contours.proofs.Walk.{Walking}
 use Rattle.contours.proofs.WalkEnds.{Ended, child-ends, row-ends}
 use Rattle.contours.proofs.RowNext.{fieldsOf}
-use Rattle.families.specs.declared.join.Stand.{Stand}
-use Rattle.families.specs.Descent.{lower}
+use Rattle.descent.specs.declared.Stand.{Stand}
+use Rattle.descent.specs.Descent.{lower}
 use Rattle.families.specs.Joining.{columnsOf, occurs}
 use Rattle.families.proofs.Joining.{Joining, first, O, S, J, F, spaced-row, spaced-child, small-n, occurs-next, apart, row-on, child-on, row-runs, child-runs, child-left, child-right}
 use Rattle.families.proofs.Contour.{Contour, standOf, room, first-row-on, last-child-on, a-few, e-few, last-child-position}
@@ -32,9 +32,9 @@ pub record Stepped (K : Joining) (u : List ℤ) : Type 0 where
   pub right-row : RightSteps (get u RIGHT) (J K .row)
   pub right-child : RightSteps (get u RIGHT) (J K .child)
 
--- what the walk and its thread leave
-pub record Ends (K : Joining) (after u : List ℤ) (moved d : ℕ) : Type 0 where
-  pub ended : Ended (J K) (F K) (fieldsOf (columnsOf after)) (get u LEFT) (get u RIGHT) moved d
+-- what the walk and its thread leave; of what the child moved, `extra` was added after the walk
+pub record Ends (K : Joining) (after u : List ℤ) (moved extra d : ℕ) : Type 0 where
+  pub ended : Ended (J K) (F K) (fieldsOf (columnsOf after)) (get u LEFT) (get u RIGHT) moved extra d
   pub stepped : Stepped K u
   pub size : length u ≡ length after
   pub rest : drop (16 * nodes (K .t)) u ≡ drop (16 * nodes (K .t)) after
@@ -43,7 +43,7 @@ pub record Ends (K : Joining) (after u : List ℤ) (moved d : ℕ) : Type 0 wher
   pub default-low : K .f ≤ d
   pub default-high : d < suc (K .c)
 
-module _ {K : Joining} {now : List ℤ} {s : Stand} (C : Contour K now s) where
+module _ {K : Joining} {now : List ℤ} {s : Stand} (C : Contour K now s) (extra : ℕ) where
   open Joining K using (t, f, c, default, before)
 
   abbrev W : Walking (J K) (F K) (fieldsOf (columnsOf now)) (standOf s (C .k))
@@ -51,6 +51,10 @@ module _ {K : Joining} {now : List ℤ} {s : Stand} (C : Contour K now s) where
 
   abbrev after : List ℤ
   after = next C
+
+  -- how far the child moves in all
+  abbrev far : ℕ
+  far = moved C + extra
 
   same-steps : (g : ℕ) → LEFT ≤ g → g ≤ RIGHT → get before g ≡ get after g
   same-steps g l r = fun-ext (λ p. sym (same-field C g p (omega arith)))
@@ -68,16 +72,16 @@ module _ {K : Joining} {now : List ℤ} {s : Stand} (C : Contour K now s) where
   inside = room (kept-next C)
 
   ended-by-child : (u : List ℤ) → W .ys ≡ []
-      → ((x : List Dot) (xs : List (List Dot)) → W .xs ≡ x ∷ xs → get u RIGHT ((lastOf (W .y)) .node) ≡ (lastOf x) .place -ℤ ((lastOf (W .y)) .place +ℤ pos (moved C)))
-      → Ended (J K) (F K) (new C) (get u LEFT) (get u RIGHT) (moved C) default
+      → ((x : List Dot) (xs : List (List Dot)) → W .xs ≡ x ∷ xs → get u RIGHT ((lastOf (W .y)) .node) ≡ (lastOf x) .place -ℤ ((lastOf (W .y)) .place +ℤ pos far))
+      → Ended (J K) (F K) (new C) (get u LEFT) (get u RIGHT) far extra default
   ended-by-child u ey h =
-      subst (λ (m : ℕ). Ended (J K) (F K) (new C) (get u LEFT) (get u RIGHT) m default) (moved-same C)
-      (child-ends W (turned C) (met-before-c C) (get u LEFT) (get u RIGHT) ey
-      (λ x xs e. h x xs e ∙ ap (λ (m : ℕ). (lastOf x) .place -ℤ ((lastOf (W .y)) .place +ℤ pos m)) (sym (moved-same C))))
+      subst (λ (m : ℕ). Ended (J K) (F K) (new C) (get u LEFT) (get u RIGHT) (m + extra) extra default) (moved-same C)
+      (child-ends W (turned C) (met-before-c C) extra (get u LEFT) (get u RIGHT) ey
+      (λ x xs e. h x xs e ∙ ap (λ (m : ℕ). (lastOf x) .place -ℤ ((lastOf (W .y)) .place +ℤ pos (m + extra))) (sym (moved-same C))))
 
   -- ---- neither goes deeper
 
-  pub ends-both : W .xs ≡ [] → W .ys ≡ [] → Ends K after after (moved C) default
+  pub ends-both : W .xs ≡ [] → W .ys ≡ [] → Ends K after after far extra default
   ends-both ex ey =
       record {
         ended = ended-by-child after ey (λ x xs e. absurd (let z : _≡_ {A = ℕ} 0 1 = cc (sym ex ∙ e) in omega arith));
@@ -93,8 +97,8 @@ module _ {K : Joining} {now : List ℤ} {s : Stand} (C : Contour K now s) where
   -- ---- a step is written at a node of the row or of the child
 
   ends-put : (g p : ℕ) (v : ℤ) → LEFT ≤ g → g ≤ RIGHT → p < nodes t → 1 ≤ occurs t f (suc c) p → (d : ℕ) → f ≤ d → d < suc c
-      → Ended (J K) (F K) (new C) (get (put after g p v) LEFT) (get (put after g p v) RIGHT) (moved C) d → Stepped K (put after g p v)
-      → Ends K after (put after g p v) (moved C) d
+      → Ended (J K) (F K) (new C) (get (put after g p v) LEFT) (get (put after g p v) RIGHT) far extra d → Stepped K (put after g p v)
+      → Ends K after (put after g p v) far extra d
   ends-put g p v low high few there d dl dh E T =
       record {
         ended = E;
@@ -113,7 +117,7 @@ module _ {K : Joining} {now : List ℤ} {s : Stand} (C : Contour K now s) where
 
   -- ---- the row goes deeper
 
-  module _ (z : ℤ) (ez : z ≡ pos (moved C)) where
+  module _ (z : ℤ) (ez : z ≡ pos far) where
     abbrev right-step : ℤ
     right-step = lower after s .right -ℤ (s .«outer_right» +ℤ z)
 
@@ -126,7 +130,7 @@ module _ {K : Joining} {now : List ℤ} {s : Stand} (C : Contour K now s) where
     right-other : (p : ℕ) → (p ≡ s .e - 1 → ⊥) → get right-put RIGHT p ≡ get after RIGHT p
     right-other p d = put-position after RIGHT (s .e - 1) right-step (omega arith) RIGHT p (omega arith) d
 
-    pub ends-child : W .ys ≡ [] → Ends K after right-put (moved C) default
+    pub ends-child : W .ys ≡ [] → Ends K after right-put far extra default
     ends-child ey =
         ends-put RIGHT (s .e - 1) right-step (omega arith) (omega arith) (e-few C) (omega (arith, occurs-next K (s .e - 1), child-there)) default
         (K .joins .rowed .default-low) (omega (arith, K .joins .rowed .default-high))
@@ -169,13 +173,13 @@ module _ {K : Joining} {now : List ℤ} {s : Stand} (C : Contour K now s) where
     left-other : (p : ℕ) → (p ≡ s .a → ⊥) → get left-put LEFT p ≡ get after LEFT p
     left-other p d = put-position after LEFT (s .a) left-step (omega arith) LEFT p (omega arith) d
 
-    pub ends-row : W .xs ≡ [] → (y : List Dot) (ys : List (List Dot)) → W .ys ≡ y ∷ ys → Ends K after left-put (moved C) c
+    pub ends-row : W .xs ≡ [] → (y : List Dot) (ys : List (List Dot)) → W .ys ≡ y ∷ ys → Ends K after left-put far extra c
     ends-row ex y ys ey =
         ends-put LEFT (s .a) left-step (omega arith) (omega arith) (a-few C) (omega (arith, occurs-next K (s .a), row-there)) c (omega (arith, S K .some)) (omega arith)
-        (subst (λ (m : ℕ). Ended (J K) (F K) (new C) (get left-put LEFT) (get left-put RIGHT) m c) (moved-same C)
-        (row-ends W (turned C) (met-before-c C) (get left-put LEFT) (get left-put RIGHT) ex ey
+        (subst (λ (m : ℕ). Ended (J K) (F K) (new C) (get left-put LEFT) (get left-put RIGHT) (m + extra) extra c) (moved-same C)
+        (row-ends W (turned C) (met-before-c C) extra (get left-put LEFT) (get left-put RIGHT) ex ey
         (ap (get left-put LEFT) (W .runs-row .1) ∙ put-same after LEFT (s .a) left-step (omega (arith, inside, a-few C))
-        ∙ ap₂ (λ (u v : ℤ). u -ℤ v) (ap₂ _+ℤ_ (next-child C y ys ey) (ez ∙ ap pos (sym (moved-same C)))) (W .outer-left))
+        ∙ ap₂ (λ (u v : ℤ). u -ℤ v) (ap₂ _+ℤ_ (next-child C y ys ey) (ez ∙ ap (λ (m : ℕ). pos (m + extra)) (sym (moved-same C)))) (W .outer-left))
         (stale-below C)))
         (record {
           left-row = subst (LeftSteps (get left-put LEFT)) (sym whole)

@@ -5,9 +5,10 @@ use mathlib.Core.List.{List}
 use Prim.Native.Nat.{ℕ, suc, _+_, _≤_, _<_}
 use native.Mathlib.Omega.{arith}
 use lib.IntN.{ℤ, pos}
-use Rattle.distance.specs.Needed.{Distance}
+use Rattle.rule.specs.Join.{Spacing}
 use Rattle.tree.specs.Table.{nodes}
 use Rattle.tree.specs.Forest.{treeOf}
+use Rattle.tree.proofs.Counting.{is-same}
 use Rattle.level_order.specs.LevelOrder.{firstAt}
 use Rattle.level_order.specs.Fields.{get, LEFT, RIGHT, ANCESTOR}
 use Rattle.contours.specs.Rows.{Outside}
@@ -62,18 +63,22 @@ module _ (t : List ℕ) (O : Ordered (firstAt (treeOf t)) (nodes t)) (f c : ℕ)
           u
 
   -- the subtree that is joined next has not been touched
-  pub waiting-kept : (D : Distance) (end : ℕ) (before after : List ℤ) → c < end → Siblings t f c end → Through t f c before after → Waiting t D f end c before → Waiting t D f end c after
+  pub waiting-kept : (D : Spacing) (end : ℕ) (before after : List ℤ) → c < end → Siblings t f c end → Through t f c before after → Waiting t D f end c before → Waiting t D f end c after
   waiting-kept D end before after h S T W =
       record {
         subtree =
             subtree-kept (firstAt (treeOf t)) (nodes t) O D c inside (get before LEFT) (get before RIGHT) (get after LEFT) (get after RIGHT)
             (λ z k. T .steps LEFT z (omega arith) (omega arith) (apart z k)) (λ z k. T .steps RIGHT z (omega arith) (omega arith) (apart z k)) (W .subtree);
+        own = ⊎-elim (λ e. e ∙ W .own) (λ e. absurd (omega (arith, e .3, apart c root))) (T .ancestor c);
         stale = λ z k. ⊎-elim (λ e. subst (Outside f end) (sym e) (W .stale z k)) (λ e. absurd (omega (arith, e .3, apart z (below z k)))) (T .ancestor z);
       }
     where
       apart : (z : ℕ) → 1 ≤ occurs t c (suc c) z → occurs t f c z ≡ 0
       apart z k =
           omega (arith, grows z, S .alone z, times-cut (firstAt (treeOf t)) (nodes t) O f (suc c) end z (omega arith) h (S .fits))
+
+      root : 1 ≤ occurs t c (suc c) c
+      root = omega (arith, times-root (firstAt (treeOf t)) (nodes t) O c c inside, is-same c c refl)
 
       below : (z : ℕ) → 1 ≤ occurs t (firstAt (treeOf t) c) (firstAt (treeOf t) (suc c)) z → 1 ≤ occurs t c (suc c) z
       below z k = omega (arith, times-root (firstAt (treeOf t)) (nodes t) O c z inside)

@@ -5,10 +5,10 @@ use mathlib.Core.Logic.{_⊎_}
 use mathlib.Core.List.{List}
 use lib.IntN.{ℤ, pos, _-ℤ_}
 use lib.ListN.{length, drop}
-use Rattle.distance.specs.Needed.{Distance}
 use Rattle.tree.specs.Table.{nodes}
 use Rattle.tree.specs.Forest.{Forest, treeOf}
 use Rattle.rule.specs.Drawing.{placeAt, middle}
+use Rattle.rule.specs.Join.{Spacing}
 use Rattle.rule.specs.Rule.{draw}
 use Rattle.level_order.specs.LevelOrder.{firstAt, positionTree}
 use Rattle.level_order.specs.Fields.{get, PLACE, LEFT, RIGHT, ANCESTOR, SHIFT, CHANGE}
@@ -19,7 +19,7 @@ use Rattle.families.specs.Joining.{occurs, Rowed, Waiting}
 -- ---- the joins of one family
 
 -- the first child stands, and the others wait
-pub record Begun (t : List ℕ) (D : Distance) (f end : ℕ) (work : List ℤ) : Type 0 where
+pub record Begun (t : List ℕ) (D : Spacing) (f end : ℕ) (work : List ℤ) : Type 0 where
   pub rowed : Rowed t D f (suc f) end f work
   pub others : (q : ℕ) → f < q → q < end → Waiting t D f end q work
 
@@ -34,7 +34,7 @@ pub record Through (t : List ℕ) (f c : ℕ) (before after : List ℤ) : Type 0
   pub gathered : (g p : ℕ) → SHIFT ≤ g → g ≤ CHANGE → (p < f) ⊎ (c ≤ p) → get after g p ≡ get before g p
 
 -- all the children are joined
-pub record AllJoined (t : List ℕ) (D : Distance) (f end : ℕ) (before after : List ℤ) : Type 0 where
+pub record AllJoined (t : List ℕ) (D : Spacing) (f end : ℕ) (before after : List ℤ) : Type 0 where
   pub default : ℕ
   pub rowed : Rowed t D f end end default after
   pub through : Through t f end before after
@@ -42,8 +42,8 @@ pub record AllJoined (t : List ℕ) (D : Distance) (f end : ℕ) (before after :
 -- ---- one family
 
 -- position p has children, and their subtrees are drawn
-pub record Ready (t : List ℕ) (D : Distance) (p : ℕ) (work : List ℤ) : Type 0 where
-  pub numbered : Numbered (treeOf t) D (nodes t) work
+pub record Ready (t : List ℕ) (D : Spacing) (p : ℕ) (work : List ℤ) : Type 0 where
+  pub numbered : Numbered (treeOf t) (D .need) (nodes t) work
   pub inside : p < nodes t
   pub some : firstAt (treeOf t) p < firstAt (treeOf t) (suc p)
   pub subtrees : (q : ℕ) → firstAt (treeOf t) p ≤ q → q < firstAt (treeOf t) (suc p) → Subtree (firstAt (treeOf t)) (nodes t) D q (get work LEFT) (get work RIGHT)
@@ -52,7 +52,7 @@ pub record Ready (t : List ℕ) (D : Distance) (p : ℕ) (work : List ℤ) : Typ
   pub below : (z : ℕ) → firstAt (treeOf t) (suc p) ≤ z → z < nodes t → (k : ℕ) × (firstAt (treeOf t) (suc p) ≤ k) × (get work ANCESTOR z ≡ pos k)
 
 -- the children of position p have their offsets
-abbrev pub FamilyPlaced : List ℕ → Distance → List ℤ → ℕ → Type 0
+abbrev pub FamilyPlaced : List ℕ → Spacing → List ℤ → ℕ → Type 0
 FamilyPlaced t D work p =
     (q : ℕ) → firstAt (treeOf t) p ≤ q → q < firstAt (treeOf t) (suc p)
     → get work PLACE q
@@ -60,7 +60,7 @@ FamilyPlaced t D work p =
     -ℤ pos (middle (childrenDrawn (firstAt (treeOf t)) (nodes t) D p))
 
 -- the family of position p is drawn
-pub record FamilyDrawn (t : List ℕ) (D : Distance) (p : ℕ) (before after : List ℤ) : Type 0 where
+pub record FamilyDrawn (t : List ℕ) (D : Spacing) (p : ℕ) (before after : List ℤ) : Type 0 where
   pub subtree : Subtree (firstAt (treeOf t)) (nodes t) D p (get after LEFT) (get after RIGHT)
   pub placed : FamilyPlaced t D after p
   pub size : length after ≡ length before
@@ -75,11 +75,11 @@ pub record FamilyDrawn (t : List ℕ) (D : Distance) (p : ℕ) (before after : L
 -- ---- all families
 
 -- every position but the root's has its offset from its parent in the drawing of the tree of positions; the root's own is its place 0
-abbrev pub Placed : Distance → Forest → ℕ → List ℤ → Type 0
+abbrev pub Placed : Spacing → Forest → ℕ → List ℤ → Type 0
 Placed D f n work = Offsets (get work PLACE) 0 (draw D (positionTree f n))
 
 -- every family is drawn
-pub record FamiliesFrom (t : List ℕ) (D : Distance) (before after : List ℤ) : Type 0 where
+pub record FamiliesFrom (t : List ℕ) (D : Spacing) (before after : List ℤ) : Type 0 where
   pub placed : Placed D (treeOf t) (nodes t) after
   pub numbering : (g p : ℕ) → g < PLACE → get after g p ≡ get before g p
   pub size : length after ≡ length before

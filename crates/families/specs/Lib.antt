@@ -1,5 +1,4 @@
 -- Families: how the children of one node are joined in the working slice, and what each step asks and leaves. Stands on `contours`, whose
 -- rows and subtrees it speaks of; `layout` calls it between the numbering and the second walk.
-pub mod Descent
 pub mod Joining
 pub mod Families

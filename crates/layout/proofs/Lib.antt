@@ -3,4 +3,5 @@
 pub mod Standing
 pub mod Cleared
 pub mod Answers
+pub mod Stored
 pub mod Returned

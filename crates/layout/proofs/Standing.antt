@@ -5,7 +5,6 @@ use Prim.Native.Nat.{ℕ, suc, _+_, _*_, _≤_, _<_}
 use native.Mathlib.Omega.{arith}
 use lib.IntN.{ℤ, pos, _+ℤ_, _-ℤ_}
 use lib.ListN.{length}
-use Rattle.distance.specs.Needed.{Distance}
 use Rattle.tree.specs.Numbers.{count}
 use Rattle.tree.specs.Table.{nodes}
 use Rattle.tree.specs.Forest.{Forest, nil, node, roots, entry, siblings, preorder, treeOf}
@@ -15,12 +14,12 @@ use Rattle.tree.proofs.Counting.{All, all-append, from-more}
 use Rattle.tree.proofs.Tests.{counted-all}
 use Rattle.tree.proofs.Stands.{accepted-numbers, accepted-size}
 use Rattle.rule.specs.Drawing.{Drawing, none, at, middle, Dot, dot, dots}
-use Rattle.rule.specs.Join.{above0}
+use Rattle.rule.specs.Join.{Spacing, above0, added}
 use Rattle.rule.specs.Rule.{draw, drawn}
 use Rattle.rule.specs.Result.{place}
 use Rattle.rule.proofs.Signed.{below0, parts-add, parts-sub, parts-eq}
 use Rattle.rule.proofs.Names.{names, names-draw}
-use Rattle.rule.proofs.Shapes.{renameDot, needBy, rename-dots, rename-draw}
+use Rattle.rule.proofs.Shapes.{renameDot, spacedBy, rename-dots, rename-draw}
 use Rattle.rule.proofs.OnLevel.{OnLevel, top, down, on-left, on-right, on-move}
 use Rattle.rule.proofs.Lookup.{dot-place, dot-level}
 use Rattle.level_order.specs.LevelOrder.{nodeAt, firstAt, positions, positionTree}
@@ -108,7 +107,7 @@ module _ (first : ℕ → ℕ) (offset X : ℕ → ℤ) (L : ℕ → ℕ) where
 
 -- ---- an accepted table
 
-module _ (D : Distance) (t : List ℕ) (accepted : tableNumber t ≡ 0) where
+module _ (D : Spacing) (t : List ℕ) (accepted : tableNumber t ≡ 0) where
   abbrev f : Forest
   f = treeOf t
 
@@ -121,9 +120,9 @@ module _ (D : Distance) (t : List ℕ) (accepted : tableNumber t ≡ 0) where
   abbrev L : ℕ → ℕ
   L p = level t (nodeAt f p)
 
-  -- what two positions need
-  abbrev E : Distance
-  E = needBy (nodeAt f) D
+  -- what keeps positions apart
+  abbrev E : Spacing
+  E = spacedBy (nodeAt f) D
 
   abbrev O : Ordered (firstAt f) n
   O = ordered t accepted
@@ -170,6 +169,7 @@ module _ (D : Distance) (t : List ℕ) (accepted : tableNumber t ≡ 0) where
 
     -- the root's own offset is 0
     placed-root : get work PLACE 0 ≡ pos 0
+    unfolding added
     placed-root = top-offset (family (firstAt f) n 0) (subst (λ (g : Forest). Offsets (get work PLACE) 0 (draw E g)) alone P)
       where
         alone : positionTree f n ≡ node 0 (family (firstAt f) n 0) nil
@@ -178,7 +178,7 @@ module _ (D : Distance) (t : List ℕ) (accepted : tableNumber t ≡ 0) where
         top-offset : (b : Forest) → Offsets (get work PLACE) 0 (draw E (node 0 b nil)) → get work PLACE 0 ≡ pos 0
         top-offset b h = h .0
 
-  pub ready : (before work : List ℤ) → Numbered f E n before → Parents f n before → Placed E f n work → 16 * n ≤ length work
+  pub ready : (before work : List ℤ) → Numbered f (E .need) n before → Parents f n before → Placed E f n work → 16 * n ≤ length work
       → ((g p : ℕ) → g < PLACE → get work g p ≡ get before g p) → Ready D t work
   ready before work N Q P s same =
       record {

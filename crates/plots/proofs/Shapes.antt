@@ -128,7 +128,7 @@ module _ (D : ℕ) (t : List ℕ) (accepted : tableNumber t ≡ 0) where
 
   equally : DrawnEqually (apart D) again 0 (apart D) t 0
   equally =
-      shapes-equal (λ x y. D) (λ v. 0) (λ v. 0) again t again-accepted accepted 0 0 (accepted-numbers again again-accepted .some) (accepted-numbers t accepted .some)
+      shapes-equal (apart D) (λ v. 0) (λ v. 0) again t again-accepted accepted 0 0 (accepted-numbers again again-accepted .some) (accepted-numbers t accepted .some)
       same-shape (same-numbers (corresponding (under again 0) (under t 0)))
 
   -- both roots stand at 0 on level 0

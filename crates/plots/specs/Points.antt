@@ -5,7 +5,7 @@ use mathlib.Core.List.{List, [], _∷_, map, List·Memᴰ}
 use lib.Dec.{eqb}
 use lib.IntN.{ℤ, pos, negsuc}
 use lib.Signed.{ltZ}
-use Rattle.distance.specs.Needed.{Distance}
+use Rattle.rule.specs.Join.{Spacing, plain}
 use Rattle.tree.specs.Numbers.{upTo, any}
 use Rattle.tree.specs.Table.{nodes}
 use Rattle.tree.specs.Forest.{treeOf}
@@ -78,8 +78,8 @@ pub record SameSet (ps qs : List Point) : Type 0 where
 -- ---- of a layout
 
 -- with half-widths 0, any two neighbours need the separation alone
-abbrev pub apart : ℕ → Distance
-apart D a b = D
+abbrev pub apart : ℕ → Spacing
+apart D = plain (λ a b. D)
 
 -- the level and the place of a node in the layout of a table under separation D, by the written rule
 abbrev pub nodePoint : ℕ → List ℕ → ℕ → Point

@@ -6,7 +6,7 @@ use Rattle.distance.specs.Needed.{badHalfWidths}
 use Rattle.tree.specs.Forest.{forest, treeOf}
 use Rattle.tree.specs.Levels.{level, levelCount}
 use Rattle.tree.specs.WellFormed.{badLength, badEntry, rootHasSibling, namedTwice, unnamed, notReached, tableConditions}
-use Rattle.rule.specs.Join.{evenly}
+use Rattle.rule.specs.Join.{evenly, added}
 use Rattle.rule.specs.Rule.{drawn}
 use Rattle.rule.specs.Result.{place, placesOf, levelsOf}
 use Rattle.blocks.specs.Below.{total, every, joined}
@@ -34,7 +34,7 @@ unfolding total every joined wordAt bytesOf blockAt wordSum weightedSum sound cl
 file-read = (refl, refl, refl, refl, refl)
 
 table-printed : tableText 3 links tapes halfWidths ≡ lines
-unfolding forest treeOf level levelCount badLength badEntry rootHasSibling namedTwice unnamed notReached tableConditions badHalfWidths drawingNumber evenly drawn place placesOf levelsOf decimalWithin decimal signedDecimal sheetLine nodeLine nodeLines drawnListing tableText
+unfolding forest treeOf level levelCount badLength badEntry rootHasSibling namedTwice unnamed notReached tableConditions badHalfWidths drawingNumber evenly added drawn place placesOf levelsOf decimalWithin decimal signedDecimal sheetLine nodeLine nodeLines drawnListing tableText
 table-printed = refl
 
 pub example-printed : sheetText file ≡ lines

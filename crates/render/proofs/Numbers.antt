@@ -15,7 +15,7 @@ use Rattle.tree.specs.WellFormed.{tableConditions, tableNumber}
 use Rattle.tree.proofs.Number.{table-refused, table-passed}
 use Rattle.tree.proofs.Stands.{accepted-numbers}
 use Rattle.rule.specs.Result.{Slices, layoutNumber}
-use Rattle.layout.proofs.Answers.{results-long, work-long, number-table, number-17, number-0}
+use Rattle.layout.proofs.Answers.{room-enough, by-widths, number-table, number-distance, number-room}
 use Rattle.lines.specs.Listing.{refusedLine}
 use Rattle.render.specs.Text.{unlessRefused, drawingNumber}
 
@@ -32,11 +32,11 @@ module _ (t : List ℕ) (D : ℕ) (hs : List ℕ) (s : Slices) (some : 1 ≤ D) 
     where
       -- past the table's conditions the half-widths decide
       past : tableNumber t ≡ 0 → (b : Bool) → badHalfWidths (nodes t) hs ≡ b → layoutNumber t D hs s ≡ cond b 17 0
-      past e true wide = sym (number-17 t D hs s e (separation-good D some small) wide)
+      past e true wide = sym (number-distance t D hs s e 17 (sym (by-widths t D hs (separation-good D some small) true wide)) (λ z. omega arith))
       past e false narrow =
           let few = accepted-numbers t e .few in
-          sym (number-0 t D hs s e (separation-good D some small) narrow (results-long t s (omega (arith, few)) (omega (arith, few)) (omega (arith, few)))
-          (work-long t s (omega (arith, few))))
+          sym (number-room t D hs s e (by-widths t D hs (separation-good D some small) false narrow))
+          ∙ room-enough t s (omega (arith, few)) (omega (arith, few)) (omega (arith, few)) (omega (arith, few))
 
       go : (k : ℕ) → k ≡ tableNumber t → layoutNumber t D hs s ≡ first (tableConditions t ++ own)
       go zero e = past (sym e) (badHalfWidths (nodes t) hs) refl ∙ sym (table-passed t own (sym e))

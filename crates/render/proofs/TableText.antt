@@ -18,8 +18,10 @@ use Rattle.tree.specs.Table.{nodes}
 use Rattle.tree.specs.Levels.{levelCount}
 use Rattle.tree.specs.WellFormed.{tableNumber}
 use Rattle.tree.proofs.Stands.{accepted-numbers, accepted-length}
+use Rattle.rule.specs.Join.{plain}
 use Rattle.rule.specs.Result.{Slices, Answer, Layout, layoutNumber, placesOf, levelsOf, leastOf, greatestOf}
-use Rattle.layout.proofs.Answers.{Taken, taken, least-fits, greatest-fits, length-places, length-levels}
+use Rattle.layout.specs.Operation.{Taken}
+use Rattle.layout.proofs.Answers.{taken, least-fits, greatest-fits, length-places, length-levels}
 use Rattle.lines.specs.Listing.{listing, refusedLine}
 use Rattle.lines.specs.Printed.{mostNodes, refusalRoom, listingRoom, printable, when, Printed, ListingPrinted, RefusalPrinted}
 use Rattle.render.specs.Text.{textRoom, drawnListing, drawingNumber, tableText}
@@ -45,7 +47,7 @@ pub record Ample (s : Slices) : Type 0 where
 
 module _ (t : List ℕ) (D : ℕ) (some : 1 ≤ D) (small : D ≤ 1024) (tapes hs : List ℕ) (s u : Slices) (a : Answer) (L : Layout t D hs s a u) (ample : Ample s) where
   abbrev places : List ℤ
-  places = placesOf (needed D hs) t
+  places = placesOf (plain (needed D hs)) t
 
   decides : layoutNumber t D hs s ≡ drawingNumber t hs
   decides = table-decides t D hs s some small (ample .places) (ample .levels) (ample .measured) (ample .work)
@@ -65,7 +67,7 @@ module _ (t : List ℕ) (D : ℕ) (some : 1 ≤ D) (small : D ≤ 1024) (tapes h
     accepted : layoutNumber t D hs s ≡ 0
     accepted = sym (L .number) ∙ e
 
-    T : Taken t D hs s
+    T : Taken t D hs 0 s
     T = taken t D hs s accepted
 
     well-formed : tableNumber t ≡ 0
@@ -88,7 +90,7 @@ module _ (t : List ℕ) (D : ℕ) (some : 1 ≤ D) (small : D ≤ 1024) (tapes h
     places-listed : take (a .nodes) (u .places) ≡ places
     places-listed =
         ap (λ (l : List ℤ). take (a .nodes) l) (L .places ∙ after-accepted _ (places) (s .places) accepted)
-        ∙ take-overwrite (a .nodes) (places) (s .places) (length-places (needed D hs) t ∙ sym nodes-given)
+        ∙ take-overwrite (a .nodes) (places) (s .places) (length-places (plain (needed D hs)) t ∙ sym nodes-given)
 
     same-listing : listing (a .nodes) (a .levels) D (a .least) (a .greatest) (take (a .nodes) (u .levels)) (take (a .nodes) (u .places)) tapes ≡ tableText D t tapes hs
     unfolding tableText drawnListing
@@ -109,7 +111,7 @@ module _ (t : List ℕ) (D : ℕ) (some : 1 ≤ D) (small : D ≤ 1024) (tapes h
     can-print {bytes} room tapes-enough =
         let n = a .nodes in
         let levels-enough : n ≤ length (take n (u .levels)) = omega (arith, nodes-given, ap length levels-listed, length-levels t) in
-        let places-enough : n ≤ length (take n (u .places)) = omega (arith, nodes-given, ap length places-listed, length-places (needed D hs) t) in
+        let places-enough : n ≤ length (take n (u .places)) = omega (arith, nodes-given, ap length places-listed, length-places (plain (needed D hs)) t) in
         let tapes-long : 2 * n ≤ length tapes = omega (arith, nodes-given, tapes-enough, accepted-length t well-formed) in
         let bytes-enough : listingRoom n ≤ bytes = omega (arith, room, few) in
         simp (le-leb n mostNodes few, le-leb n _ levels-enough, le-leb n _ places-enough, le-leb (2 * n) _ tapes-long, le-leb (listingRoom n) bytes bytes-enough)
@@ -118,12 +120,12 @@ module _ (t : List ℕ) (D : ℕ) (some : 1 ≤ D) (small : D ≤ 1024) (tapes h
     least-kept : toZ w32 (ofZ w32 (a .least)) ≡ a .least
     least-kept =
         toZ-ofZ w32 (a .least)
-        (record { sfits = subst (λ (x : ℤ). mag x < 2 ^ 31) (sym (given (leastOf (places)) (pos 0) (L .least))) (least-fits t D hs s accepted) })
+        (record { sfits = subst (λ (x : ℤ). mag x < 2 ^ 31) (sym (given (leastOf (places)) (pos 0) (L .least))) (least-fits T) })
 
     greatest-kept : toZ w32 (ofZ w32 (a .greatest)) ≡ a .greatest
     greatest-kept =
         toZ-ofZ w32 (a .greatest)
-        (record { sfits = subst (λ (x : ℤ). mag x < 2 ^ 31) (sym (given (greatestOf (places)) (pos 0) (L .greatest))) (greatest-fits t D hs s accepted) })
+        (record { sfits = subst (λ (x : ℤ). mag x < 2 ^ 31) (sym (given (greatestOf (places)) (pos 0) (L .greatest))) (greatest-fits T) })
 
     pub accepted-listed : {old new : List ℕ} {k : ℕ} → textRoom ≤ length old → length t ≤ length tapes
         → ListingPrinted (a .nodes) (a .levels) D (toZ w32 (ofZ w32 (a .least))) (toZ w32 (ofZ w32 (a .greatest))) (take (a .nodes) (u .levels))

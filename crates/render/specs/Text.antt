@@ -11,6 +11,7 @@ use Rattle.distance.specs.Needed.{needed, badHalfWidths}
 use Rattle.tree.specs.Table.{nodes}
 use Rattle.tree.specs.Levels.{levelCount}
 use Rattle.tree.specs.WellFormed.{tableConditions}
+use Rattle.rule.specs.Join.{plain}
 use Rattle.rule.specs.Result.{placesOf, levelsOf, leastOf, greatestOf}
 use Rattle.sheet.specs.Read.{nodesOf, separationOf, tableOf, tapesOf, halfWidthsOf, fileNumber}
 use Rattle.lines.specs.Listing.{listing, refusedLine}
@@ -23,7 +24,7 @@ unlessRefused number text = granted number text (refusedLine number)
 -- the listing of a table where its layout puts the nodes
 unfoldable pub drawnListing : ℕ → List ℕ → List ℕ → List ℕ → List ℕ
 drawnListing separation table tapes halfWidths =
-    let places = placesOf (needed separation halfWidths) table in
+    let places = placesOf (plain (needed separation halfWidths)) table in
     listing (nodes table) (levelCount table) separation (leastOf places) (greatestOf places) (levelsOf table) places tapes
 
 -- the number of a table with its half-widths: 1 to 5, 14, and then 17

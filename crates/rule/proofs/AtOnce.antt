@@ -3,7 +3,7 @@
 use mathlib.Core.Path.{_≡_, refl, sym, ap, ap₂, _∙_}
 use mathlib.Core.List.{List, [], _∷_, _++_, map, append-nil, append-assoc}
 use Prim.Native.Nat.{ℕ, zero, suc, _+_, _≤_}
-use native.Mathlib.Nat.{le-refl, le-trans, not-suc-le-zero, add-zero}
+use native.Mathlib.Nat.{le-refl, le-trans, not-suc-le-zero, add-zero, add-assoc}
 use native.Mathlib.Omega.{arith}
 use lib.IntN.{ℤ, pos, _+ℤ_}
 use lib.ListN.{length, drop}
@@ -11,8 +11,8 @@ use Rattle.distance.specs.Needed.{Distance}
 use Rattle.tree.specs.Forest.{Forest, nil, node}
 use Rattle.rule.specs.Rule.{drawOnto, draw}
 use Rattle.tree.proofs.Counting.{All}
-use Rattle.rule.specs.Drawing.{Drawing, none, at, width, Dot, dot, dots, rowDots, lastOf, leftContour, rightContour}
-use Rattle.rule.specs.Join.{Meeting, shortfall, meet, shares, total, spread, start, alone, rowContour, newContour, join}
+use Rattle.rule.specs.Drawing.{Drawing, none, at, width, append, Dot, dot, dots, rowDots, lastOf, leftContour, rightContour}
+use Rattle.rule.specs.Join.{Spacing, Meeting, shortfall, meet, shares, total, added, spread, start, alone, rowContour, newContour, meetings, join}
 use Rattle.rule.specs.AtOnce.{Joining, withChild, step, walkDown, joinAtOnce, drawOntoAtOnce}
 use Rattle.rule.proofs.Signed.{parts-add, parts-eq}
 use Rattle.tree.proofs.Joined.{Some}
@@ -162,23 +162,27 @@ module _ (D : Distance) (row : Drawing) (v : ℕ) (below : Drawing) (R : Row D (
       quiet : (p : ℕ) → p ≤ a .child → shares (width row) (ps ++ (m ∷ [])) p ≡ 0
       quiet p g = omega (arith, shares-append (width row) ps (m ∷ []) p, q p (le-trans g (d .0)), share-none (width row) m p g)
 
-  -- both joins are one
+-- both joins are one
+module _ (D : Spacing) (row : Drawing) (v : ℕ) (below : Drawing) (R : Row (D .need) (width row) (rowDots 0 row)) (B : Row (D .need) (width below) (rowDots 0 below)) where
   pub join-at-once : joinAtOnce D row v below ≡ join D row v below
   join-at-once =
-      ap (λ (s : Joining). withChild s v below)
-      (ap₂ (λ (r : Drawing) (x : ℕ). walkDown D (length (rowContour row)) 0 (width row) v below (record { row = r; place = x }))
-      (sym (spread-none (width row) 0 row)) (sym (add-zero (start D row v)))
-      ∙ walk-meet (length (rowContour row)) 0 (width row) [] (rowContour row) (newContour D row v below) refl refl (le-refl _)
+      let N = D .need in
+      let ms = meetings N row v below in
+      ap (λ (s : Joining). withChild (record { row = s .row; place = s .place + added (D .extra) ms }) v below)
+      (ap₂ (λ (r : Drawing) (x : ℕ). walkDown N (length (rowContour row)) 0 (width row) v below (record { row = r; place = x }))
+      (sym (spread-none (width row) 0 row)) (sym (add-zero (start N row v)))
+      ∙ walk-meet N row v below R B (length (rowContour row)) 0 (width row) [] (rowContour row) (newContour N row v below) refl refl (le-refl _)
       (descending (width row) (rowDots 0 row) (R .falling)) (λ p h. refl))
+      ∙ ap (λ (x : ℕ). append (spread (width row) ms 0 row) (alone v x below)) (add-assoc (start N row v) (total ms) (added (D .extra) ms))
 
 -- and so are the drawings
-draw-onto : (D : Distance) (row : Drawing) (f : Forest) → Row D (width row) (rowDots 0 row) → drawOntoAtOnce D row f ≡ drawOnto D row f
+draw-onto : (D : Spacing) (row : Drawing) (f : Forest) → Row (D .need) (width row) (rowDots 0 row) → drawOntoAtOnce D row f ≡ drawOnto D row f
 draw-onto D row nil R = refl
 draw-onto D row (node v f g) R =
-    let B = row-drawOnto D none f (row-none D) in
-    ap (λ (d : Drawing). drawOntoAtOnce D (joinAtOnce D row v d) g) (draw-onto D none f (row-none D))
+    let B = row-drawOnto D none f row-none in
+    ap (λ (d : Drawing). drawOntoAtOnce D (joinAtOnce D row v d) g) (draw-onto D none f row-none)
     ∙ ap (λ (d : Drawing). drawOntoAtOnce D d g) (join-at-once D row v (drawOnto D none f) R B)
     ∙ draw-onto D (join D row v (drawOnto D none f)) g (row-join D row v (drawOnto D none f) R B)
 
-pub draw-at-once : (D : Distance) (f : Forest) → drawOntoAtOnce D none f ≡ draw D f
-draw-at-once D f = draw-onto D none f (row-none D)
+pub draw-at-once : (D : Spacing) (f : Forest) → drawOntoAtOnce D none f ≡ draw D f
+draw-at-once D f = draw-onto D none f row-none

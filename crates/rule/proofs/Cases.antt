@@ -5,13 +5,13 @@ use mathlib.Core.List.{List, [], _∷_, _++_, map}
 use Prim.Native.Nat.{ℕ, zero, suc, _+_, _*_}
 use lib.IntN.{ℤ, pos, negℤ}
 use lib.ListN.{replicate}
-use Rattle.distance.specs.Needed.{badSeparation, badHalfWidths}
+use Rattle.distance.specs.Needed.{needed, badSeparation, badHalfWidths}
 use Rattle.tree.specs.Table.{none, nodes}
 use Rattle.tree.specs.Forest.{forest, treeOf}
 use Rattle.tree.specs.Levels.{level, levelCount, neighbours}
 use Rattle.tree.specs.WellFormed.{badLength, badEntry, rootHasSibling, namedTwice, unnamed, notReached, tableConditions}
 use Rattle.refusal.specs.After.{overwrite, after}
-use Rattle.rule.specs.Join.{evenly}
+use Rattle.rule.specs.Join.{evenly, added, plain}
 use Rattle.rule.specs.Rule.{drawn}
 use Rattle.rule.specs.Result.{place, placesOf, levelsOf, Slices, Answer, Layout, shortResults, shortWork, layoutNumber}
 use Rattle.rule.proofs.Fixed.{answered, returned, fixed}
@@ -34,10 +34,9 @@ pub outcome : Sheet → Outcome
 unfolding lent
 outcome s =
     let given = lent (nodes (s .table)) in
-    record {
-      answer = answered (s .table) (s .separation) (s .halfWidths) given;
-      slices = returned (s .table) (s .separation) (s .halfWidths) given;
-    }
+    let k = layoutNumber (s .table) (s .separation) (s .halfWidths) given in
+    let by = plain (needed (s .separation) (s .halfWidths)) in
+    record { answer = answered k by (s .table); slices = returned k by (s .table) given }
 
 -- a sheet whose half-widths are 0
 sheet : List ℕ → ℕ → Sheet
@@ -136,14 +135,14 @@ expected =
     ∷ []
 
 pub checked : map outcome sheets ≡ expected
-unfolding outcome sheets expected drawing refused minus lent leaves inner outer sheet forest treeOf level levelCount neighbours badLength badEntry rootHasSibling namedTwice unnamed notReached tableConditions evenly drawn place placesOf levelsOf badSeparation badHalfWidths shortResults shortWork layoutNumber overwrite after
+unfolding outcome sheets expected drawing refused minus lent leaves inner outer sheet forest treeOf level levelCount neighbours badLength badEntry rootHasSibling namedTwice unnamed notReached tableConditions evenly added drawn place placesOf levelsOf badSeparation badHalfWidths shortResults shortWork layoutNumber overwrite after
 checked = refl
 
 -- whatever meets the layout's contract gives that outcome
 pub called : (s : Sheet) (a : Answer) (u : Slices) → Layout (s .table) (s .separation) (s .halfWidths) (lent (nodes (s .table))) a u → record { answer = a; slices = u } ≡ outcome s
 unfolding outcome
 called s a u L =
-    let f = fixed (s .table) (s .separation) (s .halfWidths) (lent (nodes (s .table))) a u L in
+    let f = fixed L in
     λ i. record { answer = f .0 i; slices = f .1 i }
 
 -- P6 with wide labels: node 7 needs 10 on either side, and where the two families meet nodes 6 and 10 need 11, a conflict of 6.
@@ -165,7 +164,7 @@ wide-expected =
     (1 ∷ 7 ∷ 7 ∷ 8 ∷ 8 ∷ 9 ∷ 2 ∷ 3 ∷ 3 ∷ 4 ∷ 4 ∷ 5 ∷ 5 ∷ 6 ∷ 6 ∷ 10 ∷ 10 ∷ 11 ∷ 11 ∷ 12 ∷ 12 ∷ 13 ∷ 13 ∷ 14 ∷ [])
 
 pub wide-checked : outcome wide ≡ wide-expected
-unfolding outcome wide wide-expected drawing minus lent leaves inner outer forest treeOf level levelCount neighbours badLength badEntry rootHasSibling namedTwice unnamed notReached tableConditions evenly drawn place placesOf levelsOf badSeparation badHalfWidths shortResults shortWork layoutNumber overwrite after
+unfolding outcome wide wide-expected drawing minus lent leaves inner outer forest treeOf level levelCount neighbours badLength badEntry rootHasSibling namedTwice unnamed notReached tableConditions evenly added drawn place placesOf levelsOf badSeparation badHalfWidths shortResults shortWork layoutNumber overwrite after
 wide-checked = refl
 
 -- 17 is tried after 6 and before 7: a half-width of 257, and no room for results

@@ -36,8 +36,8 @@ stays : (D : Distance) (m : ℕ → ℕ) (c : ℕ) (xs : List (List Dot)) → Fa
 stays D m c (x ∷ xs) f s h d zero (top k) = h (d .child) (le-trans (last-right D d x (s .0) k .0) (f .0))
 stays D m c (x ∷ xs) f s h d (suc l) (down o) = stays D m ((lastOf x) .child) xs (f .1) (s .1) (λ p k. h p (le-trans k (f .0))) d l o
 
-pub stay-or-led : {D : Distance} {j c moved : ℕ} (xs ys : List (List Dot)) {m : ℕ → ℕ} {t : ℕ} → ((p r : ℕ) → p ≤ r → m p ≤ m r) → All (Spaced D) xs → All Some ys
-    → Walking D j c moved xs ys m t → (d : Dot) (l : ℕ) → OnLevel d l xs → (m (d .child) ≡ 0) ⊎ Led m t d l ys
+pub stay-or-led : {D : Distance} {j c moved : ℕ} (xs ys : List (List Dot)) {m : ℕ → ℕ} {t extra : ℕ} → ((p r : ℕ) → p ≤ r → m p ≤ m r) → All (Spaced D) xs → All Some ys
+    → Walking D j c moved xs ys m t extra → (d : Dot) (l : ℕ) → OnLevel d l xs → (m (d .child) ≡ 0) ⊎ Led m t d l ys
 stay-or-led {D} {c = c} (x ∷ xs) [] {m} mono s q W d l o = inl (stays D m c (x ∷ xs) (W .falling) s (W .moves) d l o)
 stay-or-led {D} (x ∷ xs) (y ∷ ys) {m} {t} mono s q W d zero (top k) =
     let r = last-right D d x (s .0) k in

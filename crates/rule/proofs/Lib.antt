@@ -16,6 +16,7 @@ pub mod Shapes
 pub mod Within
 pub mod Lookup
 pub mod Exact
+pub mod Significant
 pub mod Led
 pub mod Width
 pub mod Own

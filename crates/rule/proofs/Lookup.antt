@@ -7,7 +7,6 @@ use Prim.Native.Nat.{ℕ, suc, _≤_}
 use native.Mathlib.Omega.{arith}
 use lib.IntN.{pos}
 use borrow.Author.Tests.{eq-eqb, ne-eqb}
-use Rattle.distance.specs.Needed.{Distance}
 use Rattle.tree.specs.Numbers.{count, member}
 use Rattle.tree.specs.Forest.{node, treeOf}
 use Rattle.tree.specs.Levels.{levels, together, levelIn, level}
@@ -18,6 +17,7 @@ use Rattle.tree.proofs.Tests.{member-count, member-none}
 use Rattle.tree.proofs.Stands.{accepted-once}
 use Rattle.tree.proofs.LevelOf.{count-levels}
 use Rattle.rule.specs.Drawing.{Dot}
+use Rattle.rule.specs.Join.{Spacing}
 use Rattle.rule.specs.Rule.{draw, drawn}
 use Rattle.rule.specs.Result.{placeIn, place}
 use Rattle.rule.proofs.Names.{names-draw, nodes-dots}
@@ -70,7 +70,7 @@ level-here {e} (down {x = x} {xs = xs} o) c =
 
 -- ---- the drawing of an accepted table
 
-module _ (D : Distance) (t : List ℕ) (accepted : tableNumber t ≡ 0) where
+module _ (D : Spacing) (t : List ℕ) (accepted : tableNumber t ≡ 0) where
   -- the drawing's levels are the tree's
   pub nodes-drawn : map nodesOf (drawn D t) ≡ levels (treeOf t)
   unfolding drawn

@@ -6,11 +6,10 @@ use Prim.Native.Nat.{ℕ, zero, suc, _+_, _<_}
 use native.Mathlib.Nat.{not-suc-le-zero, add-zero, zero-add}
 use native.Mathlib.Omega.{arith}
 use lib.IntN.{ℤ, pos, negℤ, _+ℤ_, _-ℤ_}
-use Rattle.distance.specs.Needed.{Distance}
 use Rattle.tree.specs.Levels.{beside}
 use Rattle.tree.proofs.Joined.{beside-assoc, beside-nil, map-beside}
 use Rattle.rule.specs.Drawing.{Drawing, none, at, width, append, placeAt, middle, Dot, dot, dots, rowDots}
-use Rattle.rule.specs.Join.{Meeting, shares, total, spread, start, alone, join, meetings, settled}
+use Rattle.rule.specs.Join.{Spacing, Meeting, shares, movement, spread, start, alone, join, meetings, settled}
 use Rattle.rule.proofs.Signed.{parts-add, parts-sub, parts-eq, swap-last}
 
 -- ---- a dot moved, alone or by what its child moves
@@ -112,26 +111,26 @@ spread-place j ms q (at v x below after) (suc p) h =
 
 -- ---- a join
 
-pub width-join : (D : Distance) (row : Drawing) (v : ℕ) (below : Drawing) → width (join D row v below) ≡ suc (width row)
+pub width-join : (D : Spacing) (row : Drawing) (v : ℕ) (below : Drawing) → width (join D row v below) ≡ suc (width row)
 width-join D row v below =
     omega (
       arith,
-      width-append (spread (width row) (meetings D row v below) 0 row) (alone v (settled D row v below) below),
-      width-spread (width row) (meetings D row v below) 0 row,
+      width-append (spread (width row) (meetings (D .need) row v below) 0 row) (alone v (settled D row v below) below),
+      width-spread (width row) (meetings (D .need) row v below) 0 row,
     )
 
--- the levels after a join: those of the row, each child moved by its shares, beside those of the new child, moved by the total
-pub rowDots-join : (D : Distance) (row : Drawing) (v : ℕ) (below : Drawing)
+-- the levels after a join: those of the row, each child moved by its shares, beside those of the new child, moved by all that it moves
+pub rowDots-join : (D : Spacing) (row : Drawing) (v : ℕ) (below : Drawing)
     → rowDots 0 (join D row v below)
-    ≡ beside (map (map (moveBy (shares (width row) (meetings D row v below)))) (rowDots 0 row))
-    (map (map (shiftBy (pos (total (meetings D row v below))))) (dots (width row) (pos 0) (alone v (start D row v) below)))
+    ≡ beside (map (map (moveBy (shares (width row) (meetings (D .need) row v below)))) (rowDots 0 row))
+    (map (map (shiftBy (pos (movement (D .extra) (meetings (D .need) row v below))))) (dots (width row) (pos 0) (alone v (start (D .need) row v) below)))
 rowDots-join D row v below =
-    let ms = meetings D row v below in
+    let ms = meetings (D .need) row v below in
     let place : 0 + width (spread (width row) ms 0 row) ≡ width row = zero-add _ ∙ width-spread (width row) ms 0 row in
     rowDots-append 0 (spread (width row) ms 0 row) (alone v (settled D row v below) below)
     ∙ ap₂ (λ (l k : List (List Dot)). beside l k) (rowDots-spread (width row) ms 0 row)
     (ap (λ (k : ℕ). rowDots k (alone v (settled D row v below) below)) place ∙ beside-nil (dots (width row) (pos 0) (alone v (settled D row v below) below))
-    ∙ alone-shift (width row) v (start D row v) (total ms) below)
+    ∙ alone-shift (width row) v (start (D .need) row v) (movement (D .extra) ms) below)
 
 -- a row seen from outside: its dots belong to one child, and its count starts at o
 pub dots-row : (i p : ℕ) (o : ℤ) (d : Drawing) → dots i o d ≡ map (map (settle i o)) (rowDots p d)

@@ -3,11 +3,10 @@ use mathlib.Core.Path.{_≡_, refl, sym, ap, ap₂, _∙_}
 use mathlib.Core.List.{List, [], _∷_, map}
 use Prim.Native.Nat.{ℕ, _+_}
 use lib.IntN.{ℤ, pos}
-use Rattle.distance.specs.Needed.{Distance}
 use Rattle.tree.specs.Forest.{Forest, nil, node, join as joinForest}
 use Rattle.tree.specs.Levels.{beside, levels}
 use Rattle.rule.specs.Drawing.{Drawing, none, at, append, dots, rowDots}
-use Rattle.rule.specs.Join.{Meeting, spread, join, meetings, settled}
+use Rattle.rule.specs.Join.{Spacing, Meeting, spread, join, meetings, settled}
 use Rattle.rule.specs.Rule.{drawOnto, draw}
 use Rattle.tree.proofs.Joined.{join-nil, join-assoc, beside-nil, map-beside}
 
@@ -24,12 +23,12 @@ pub names-spread : (j : ℕ) (ms : List Meeting) (p : ℕ) (d : Drawing) → nam
 names-spread j ms p none = refl
 names-spread j ms p (at v x below after) = ap (node v (names below)) (names-spread j ms (p + 1) after)
 
-pub names-join : (D : Distance) (row : Drawing) (v : ℕ) (below : Drawing) → names (join D row v below) ≡ joinForest (names row) (node v (names below) nil)
+pub names-join : (D : Spacing) (row : Drawing) (v : ℕ) (below : Drawing) → names (join D row v below) ≡ joinForest (names row) (node v (names below) nil)
 names-join D row v below =
-    names-append (spread _ (meetings D row v below) 0 row) (at v (settled D row v below) below none)
-    ∙ ap (λ (f : Forest). joinForest f (node v (names below) nil)) (names-spread _ (meetings D row v below) 0 row)
+    names-append (spread _ (meetings (D .need) row v below) 0 row) (at v (settled D row v below) below none)
+    ∙ ap (λ (f : Forest). joinForest f (node v (names below) nil)) (names-spread _ (meetings (D .need) row v below) 0 row)
 
-pub names-drawOnto : (D : Distance) (row : Drawing) (f : Forest) → names (drawOnto D row f) ≡ joinForest (names row) f
+pub names-drawOnto : (D : Spacing) (row : Drawing) (f : Forest) → names (drawOnto D row f) ≡ joinForest (names row) f
 names-drawOnto D row nil = sym (join-nil (names row))
 names-drawOnto D row (node v f g) =
     names-drawOnto D (join D row v (drawOnto D none f)) g
@@ -38,7 +37,7 @@ names-drawOnto D row (node v f g) =
     ∙ ap (λ (h : Forest). joinForest (names row) (node v h g)) (names-drawOnto D none f)
 
 -- the drawing of a forest is one of that forest
-pub names-draw : (D : Distance) (f : Forest) → names (draw D f) ≡ f
+pub names-draw : (D : Spacing) (f : Forest) → names (draw D f) ≡ f
 names-draw D f = names-drawOnto D none f
 
 -- ---- levels

@@ -12,7 +12,7 @@ use Rattle.tree.specs.Levels.{beside, levels, sideBySide, Pair}
 use Rattle.tree.proofs.Counting.{All, sumOver, sumOver-append}
 use Rattle.tree.proofs.Joined.{levels-join, beside-nil, Some, some, levels-some}
 use Rattle.rule.specs.Drawing.{Drawing, none, at, width, Dot, dots, rowDots, firstOf, lastOf, leftContour, rightContour}
-use Rattle.rule.specs.Join.{measure, measured, join, start}
+use Rattle.rule.specs.Join.{Spacing, measure, measured, join, start}
 use Rattle.rule.specs.Rule.{drawOnto, recordOnto}
 use Rattle.rule.proofs.Names.{names, names-join, nodes-dots, nodes-rowDots}
 
@@ -84,19 +84,19 @@ measured-seams D row v below =
 abbrev pairsOf : Drawing → List Pair
 pairsOf d = pairsIn (levels (names d))
 
-pairs-join : (w : Pair → ℕ) (D : Distance) (row : Drawing) (v : ℕ) (below : Drawing)
-    → sumOver w (pairsOf (join D row v below)) ≡ sumOver w (pairsOf row) + sumOver w (measured D row v below) + sumOver w (pairsOf below)
+pairs-join : (w : Pair → ℕ) (D : Spacing) (row : Drawing) (v : ℕ) (below : Drawing)
+    → sumOver w (pairsOf (join D row v below)) ≡ sumOver w (pairsOf row) + sumOver w (measured (D .need) row v below) + sumOver w (pairsOf below)
 pairs-join w D row v below =
     ap (λ (f : Forest). sumOver w (pairsIn (levels f))) (names-join D row v below)
     ∙ ap (λ (l : List (List ℕ)). sumOver w (pairsIn l)) (levels-join (names row) (node v (names below) nil))
     ∙ pairs-beside w (levels (names row)) (levels (node v (names below) nil)) (levels-some (names row)) (levels-some (node v (names below) nil))
     ∙ omega (
       arith,
-      ap (sumOver w) (measured-seams D row v below),
+      ap (sumOver w) (measured-seams (D .need) row v below),
       ap (λ (l : List (List ℕ)). sumOver w (pairsIn l)) (beside-nil ((v ∷ []) ∷ levels (names below))),
     )
 
-pub pairs-record : (w : Pair → ℕ) (D : Distance) (row : Drawing) (f : Forest)
+pub pairs-record : (w : Pair → ℕ) (D : Spacing) (row : Drawing) (f : Forest)
     → sumOver w (pairsOf row) + sumOver w (recordOnto D row f) ≡ sumOver w (pairsOf (drawOnto D row f))
 pairs-record w D row nil = omega arith
 pairs-record w D row (node v f g) =
@@ -105,6 +105,6 @@ pairs-record w D row (node v f g) =
       pairs-record w D none f,
       pairs-record w D (join D row v (drawOnto D none f)) g,
       pairs-join w D row v (drawOnto D none f),
-      sumOver-append w (recordOnto D none f ++ measured D row v (drawOnto D none f)) (recordOnto D (join D row v (drawOnto D none f)) g),
-      sumOver-append w (recordOnto D none f) (measured D row v (drawOnto D none f)),
+      sumOver-append w (recordOnto D none f ++ measured (D .need) row v (drawOnto D none f)) (recordOnto D (join D row v (drawOnto D none f)) g),
+      sumOver-append w (recordOnto D none f) (measured (D .need) row v (drawOnto D none f)),
     )

@@ -1,4 +1,4 @@
--- The promises of the written rule, for every accepted table and whatever distance neighbours need. Assumes nothing.
+-- The promises of the written rule, for every accepted table, whatever distance neighbours need and whatever is added. Assumes nothing.
 use mathlib.Core.Path.{_≡_, refl, sym, ap, _∙_, subst, subst₂}
 use mathlib.Core.Bool.{true}
 use mathlib.Core.List.{List, [], _∷_, map, List·Memᴰ, List·Memᴰ·head, List·Memᴰ·tail}
@@ -19,6 +19,7 @@ use Rattle.tree.proofs.Parts.{Part, locate, part-agrees, part-below, part-size}
 use Rattle.tree.proofs.Stands.{accepted-numbers, accepted-once, accepted-size, accepted-agrees}
 use Rattle.tree.proofs.LevelOf.{count-levels}
 use Rattle.rule.specs.Drawing.{Drawing, none, width, middle, Dot, dot, dots}
+use Rattle.rule.specs.Join.{Spacing}
 use Rattle.rule.specs.Rule.{draw, drawn, recorded}
 use Rattle.rule.specs.Record.{isPair, pairCount, SamePairs}
 use Rattle.rule.specs.Result.{place}
@@ -27,7 +28,7 @@ use Rattle.rule.proofs.Names.{names-draw}
 use Rattle.rule.proofs.Pairs.{pairs-record, pairsIn}
 use Rattle.rule.proofs.PairCounts.{pairCount-sum, length-sum, levels-once, levels-pairs}
 use Rattle.rule.proofs.Spacing.{Spaced, row-child, row-drawOnto, row-none}
-use Rattle.rule.proofs.Shapes.{renameDrawing, needBy, rename-middle, same-drawing}
+use Rattle.rule.proofs.Shapes.{renameDrawing, spacedBy, rename-middle, same-drawing}
 use Rattle.rule.proofs.OnLevel.{OnLevel, top, down}
 use Rattle.rule.proofs.Within.{Stands, has-stands, has-draw, renamed-alike, Match, alike-match}
 use Rattle.rule.proofs.Lookup.{nodesOf, nodes-drawn, dot-place, dot-level}
@@ -35,12 +36,12 @@ use Rattle.tree.proofs.Joined.{levels-some, length-levels}
 
 -- ---- 1. the measured pairs are the neighbours
 
-weighed : (w : Pair → ℕ) (D : Distance) (t : List ℕ) → sumOver w (recorded D t) ≡ sumOver w (neighbours t)
+weighed : (w : Pair → ℕ) (D : Spacing) (t : List ℕ) → sumOver w (recorded D t) ≡ sumOver w (neighbours t)
 unfolding recorded neighbours
 weighed w D t = omega (arith, pairs-record w D none (treeOf t), ap (λ (f : Forest). sumOver w (pairsIn (levels f))) (names-draw D (treeOf t)))
 
 -- the measured pairs are the pairs of neighbours, each as often
-pub measured-neighbours : (D : Distance) (t : List ℕ) → SamePairs (recorded D t) (neighbours t)
+pub measured-neighbours : (D : Spacing) (t : List ℕ) → SamePairs (recorded D t) (neighbours t)
 measured-neighbours D t =
     record {
       many = length-sum (recorded D t) ∙ weighed (λ p. 1) D t ∙ sym (length-sum (neighbours t));
@@ -80,12 +81,12 @@ spaced-pairs D spot (x ∷ xs) s h =
     )
 
 -- of every two neighbours the right one stands at least the distance that they need further right
-pub neighbours-apart : (D : Distance) (t : List ℕ) → tableNumber t ≡ 0 → All (λ p. (place D t (p .0) +ℤ pos (D (p .0) (p .1))) ≤ℤ (place D t (p .1))) (neighbours t)
+pub neighbours-apart : (D : Spacing) (t : List ℕ) → tableNumber t ≡ 0 → All (λ p. (place D t (p .0) +ℤ pos (D .need (p .0) (p .1))) ≤ℤ (place D t (p .1))) (neighbours t)
 unfolding neighbours drawn
 neighbours-apart D t accepted =
-    subst (λ (ls : List (List ℕ)). All (λ p. (place D t (p .0) +ℤ pos (D (p .0) (p .1))) ≤ℤ (place D t (p .1))) (pairsIn ls)) (nodes-drawn D t accepted)
-    (spaced-pairs D (place D t) (drawn D t)
-    (row-child D 0 (width (draw D (treeOf t))) (pos 0) (draw D (treeOf t)) (row-drawOnto D none (treeOf t) (row-none D)) .spaced)
+    subst (λ (ls : List (List ℕ)). All (λ p. (place D t (p .0) +ℤ pos (D .need (p .0) (p .1))) ≤ℤ (place D t (p .1))) (pairsIn ls)) (nodes-drawn D t accepted)
+    (spaced-pairs (D .need) (place D t) (drawn D t)
+    (row-child (D .need) 0 (width (draw D (treeOf t))) (pos 0) (draw D (treeOf t)) (row-drawOnto D none (treeOf t) row-none) .spaced)
     (dot-place D t accepted))
 
 -- ---- 3. equal ordered shapes are drawn equally
@@ -105,21 +106,21 @@ part-at t accepted v h =
     (r .1, subst (λ (f : Forest). Part (node v f (r .1)) (treeOf t)) (sym reads) (r .2))
 
 -- where node v of an accepted table stands, with what is drawn below it
-pub stands-at : (D : Distance) (t : List ℕ) → tableNumber t ≡ 0 → (v : ℕ) → v < nodes t → Stands 0 v (draw D (under t v)) (drawn D t)
+pub stands-at : (D : Spacing) (t : List ℕ) → tableNumber t ≡ 0 → (v : ℕ) → v < nodes t → Stands 0 v (draw D (under t v)) (drawn D t)
 unfolding drawn
 stands-at D t accepted v h = has-stands 0 (pos 0) (has-draw D none (part-at t accepted v h .1))
 
 -- two nodes, in one table or in two, with one sideways shift and one difference in depth at every two corresponding nodes below them
-pub record DrawnEqually (D : Distance) (t : List ℕ) (v : ℕ) (D′ : Distance) (u : List ℕ) (w : ℕ) : Type 0 where
+pub record DrawnEqually (D : Spacing) (t : List ℕ) (v : ℕ) (D′ : Spacing) (u : List ℕ) (w : ℕ) : Type 0 where
   pub shift : ℤ
   pub depth : ℤ
   pub places : All (λ p. place D′ u (p .1) ≡ place D t (p .0) +ℤ shift) (correspondingUnder t v u w)
   pub levels : All (λ p. pos (level u (p .1)) ≡ pos (level t (p .0)) +ℤ depth) (correspondingUnder t v u w)
 
 -- The nodes of the one table are known to the distance by g, those of the other by h: what they need is equal at corresponding nodes.
-pub shapes-equal : (N : Distance) (g h : ℕ → ℕ) (t u : List ℕ) → tableNumber t ≡ 0 → tableNumber u ≡ 0 → (v w : ℕ) → v < nodes t → w < nodes u
+pub shapes-equal : (N : Spacing) (g h : ℕ → ℕ) (t u : List ℕ) → tableNumber t ≡ 0 → tableNumber u ≡ 0 → (v w : ℕ) → v < nodes t → w < nodes u
     → sameOrderedShape t v u w ≡ true → All (λ p. g (p .0) ≡ h (p .1)) (corresponding (under t v) (under u w))
-    → DrawnEqually (needBy g N) t v (needBy h N) u w
+    → DrawnEqually (spacedBy g N) t v (spacedBy h N) u w
 unfolding sameOrderedShape correspondingUnder
 shapes-equal N g h t u ok ok′ v w hv hw same equal =
     record {
@@ -129,11 +130,11 @@ shapes-equal N g h t u ok ok′ v w hv hw same equal =
       levels = (root-level, all-weaken (Match 0 0 o q (dots 0 o b) (dots 0 q b′)) _ below-level (corresponding (under t v) (under u w)) matches);
     }
   where
-    D : Distance
-    D = needBy g N
+    D : Spacing
+    D = spacedBy g N
 
-    D′ : Distance
-    D′ = needBy h N
+    D′ : Spacing
+    D′ = spacedBy h N
 
     b : Drawing
     b = draw D (under t v)

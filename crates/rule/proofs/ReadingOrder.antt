@@ -9,7 +9,6 @@ use native.Mathlib.Omega.{arith}
 use lib.IntN.{ℤ, pos, _+ℤ_}
 use lib.ListN.{length, getD}
 use lib.Signed.{_≤ℤ_}
-use Rattle.distance.specs.Needed.{Distance}
 use Rattle.tree.specs.Numbers.{flatMap}
 use Rattle.tree.specs.Forest.{treeOf}
 use Rattle.tree.specs.Levels.{Pair, level, levels, sideBySide, neighbours}
@@ -17,6 +16,7 @@ use Rattle.tree.specs.WellFormed.{tableNumber}
 use Rattle.tree.proofs.Counting.{All, all-append, all-left, all-right, all-weaken, all-both}
 use Rattle.tree.proofs.Tests.{all-at}
 use Rattle.tree.proofs.Leveled.{Leveled, accepted-leveled}
+use Rattle.rule.specs.Join.{Spacing}
 use Rattle.rule.specs.Result.{place}
 use Rattle.rule.proofs.Signed.{at-most, parts-le, parts-add}
 use Rattle.rule.proofs.Promises.{neighbours-apart}
@@ -103,7 +103,7 @@ module _ (lev : ℕ → ℕ) (spot : ℕ → ℤ) (D : ℕ) where
   not-itself some p (inr beside) = omega (arith, at-most (spot (p .0) +ℤ pos D) (spot (p .0)) (beside .1), parts-add (spot (p .0)) (pos D))
 
 -- Where no two nodes need less than D, neighbours of an accepted table stand at least D apart,
-module _ (N : Distance) (D : ℕ) (least : (a b : ℕ) → D ≤ N a b) (t : List ℕ) (accepted : tableNumber t ≡ 0) where
+module _ (N : Spacing) (D : ℕ) (least : (a b : ℕ) → D ≤ N .need a b) (t : List ℕ) (accepted : tableNumber t ≡ 0) where
   pub neighbours-at-least : All (Apart (place N t) D) (neighbours t)
   neighbours-at-least = all-weaken _ _ (λ p h. nearer (place N t (p .0)) (place N t (p .1)) (least (p .0) (p .1)) h) (neighbours t) (neighbours-apart N t accepted)
     where

@@ -14,7 +14,7 @@ use Rattle.tree.proofs.Counting.{All, all-left, all-right}
 use Rattle.tree.proofs.Joined.{Some, some, beside-some, map-beside}
 use Rattle.tree.proofs.Rename.{rename}
 use Rattle.rule.specs.Drawing.{Drawing, none, at, width, append, firstPlace, lastPlace, middle, Dot, dot, dots, rowDots, leftContour, rightContour}
-use Rattle.rule.specs.Join.{Meeting, shortfall, meet, shares, total, spread, start, alone, join, meetings, settled, rowContour, newContour}
+use Rattle.rule.specs.Join.{Spacing, spaced, Meeting, shortfall, meet, shares, movement, spread, start, alone, join, meetings, settled, rowContour, newContour}
 use Rattle.rule.specs.Rule.{drawOnto, draw}
 use Rattle.rule.proofs.Names.{names, names-draw}
 use Rattle.rule.proofs.LevelEnds.{last-map, first-map}
@@ -29,6 +29,9 @@ renameDot g e = dot (e .child) (g (e .node)) (e .place)
 -- what the nodes need whose new numbers are the arguments
 abbrev pub needBy : (ℕ → ℕ) → Distance → Distance
 needBy g D a b = D (g a) (g b)
+
+abbrev pub spacedBy : (ℕ → ℕ) → Spacing → Spacing
+spacedBy g D = spaced (needBy g (D .need)) (D .extra)
 
 -- ---- places, levels and contours
 
@@ -117,25 +120,27 @@ module _ (D : Distance) (g : ℕ → ℕ) where
   rename-spread j ms p none = refl
   rename-spread j ms p (at v x below after) = ap (at (g v) (x + shares j ms p) (renameDrawing g below)) (rename-spread j ms (p + 1) after)
 
+module _ (D : Spacing) (g : ℕ → ℕ) where
   rename-join : (row : Drawing) (v : ℕ) (below : Drawing)
-      → join D (renameDrawing g row) (g v) (renameDrawing g below) ≡ renameDrawing g (join (needBy g D) row v below)
+      → join D (renameDrawing g row) (g v) (renameDrawing g below) ≡ renameDrawing g (join (spacedBy g D) row v below)
   rename-join row v below =
-      let ms = meetings (needBy g D) row v below in
+      let N = D .need in
+      let ms = meetings (needBy g N) row v below in
       ap₂ append
-      (ap₂ (λ (j : ℕ) (ms : List Meeting). spread j ms 0 (renameDrawing g row)) (rename-width g row) (rename-meetings row v below)
-      ∙ sym (rename-spread (width row) ms 0 row))
-      (ap₂ (λ (x : ℕ) (ms : List Meeting). alone (g v) (x + total ms) (renameDrawing g below)) (rename-start row v) (rename-meetings row v below))
-      ∙ sym (rename-append (spread (width row) ms 0 row) (alone v (settled (needBy g D) row v below) below))
+      (ap₂ (λ (j : ℕ) (ms : List Meeting). spread j ms 0 (renameDrawing g row)) (rename-width g row) (rename-meetings N g row v below)
+      ∙ sym (rename-spread N g (width row) ms 0 row))
+      (ap₂ (λ (x : ℕ) (ms : List Meeting). alone (g v) (x + movement (D .extra) ms) (renameDrawing g below)) (rename-start N g row v) (rename-meetings N g row v below))
+      ∙ sym (rename-append N g (spread (width row) ms 0 row) (alone v (settled (spacedBy g D) row v below) below))
 
-  rename-drawOnto : (row : Drawing) (f : Forest) → drawOnto D (renameDrawing g row) (rename g f) ≡ renameDrawing g (drawOnto (needBy g D) row f)
+  rename-drawOnto : (row : Drawing) (f : Forest) → drawOnto D (renameDrawing g row) (rename g f) ≡ renameDrawing g (drawOnto (spacedBy g D) row f)
   rename-drawOnto row nil = refl
   rename-drawOnto row (node v f h) =
       ap (λ (d : Drawing). drawOnto D (join D (renameDrawing g row) (g v) d) (rename g h)) (rename-drawOnto none f)
-      ∙ ap (λ (d : Drawing). drawOnto D d (rename g h)) (rename-join row v (drawOnto (needBy g D) none f))
-      ∙ rename-drawOnto (join (needBy g D) row v (drawOnto (needBy g D) none f)) h
+      ∙ ap (λ (d : Drawing). drawOnto D d (rename g h)) (rename-join row v (drawOnto (spacedBy g D) none f))
+      ∙ rename-drawOnto (join (spacedBy g D) row v (drawOnto (spacedBy g D) none f)) h
 
   -- the drawing of a renamed forest is the renamed drawing
-  pub rename-draw : (f : Forest) → draw D (rename g f) ≡ renameDrawing g (draw (needBy g D) f)
+  pub rename-draw : (f : Forest) → draw D (rename g f) ≡ renameDrawing g (draw (spacedBy g D) f)
   rename-draw f = rename-drawOnto none f
 
 -- ---- forests of one shape
@@ -151,8 +156,8 @@ same-renamed g h (node v a b) (node w c d) e s =
     λ i. node (s .0 i) (first i) (others i)
 
 -- are drawn alike
-pub same-drawing : (D : Distance) (g h : ℕ → ℕ) (a b : Forest) → sameShape a b ≡ true → All (λ p. g (p .0) ≡ h (p .1)) (corresponding a b)
-    → renameDrawing g (draw (needBy g D) a) ≡ renameDrawing h (draw (needBy h D) b)
+pub same-drawing : (D : Spacing) (g h : ℕ → ℕ) (a b : Forest) → sameShape a b ≡ true → All (λ p. g (p .0) ≡ h (p .1)) (corresponding a b)
+    → renameDrawing g (draw (spacedBy g D) a) ≡ renameDrawing h (draw (spacedBy h D) b)
 same-drawing D g h a b e s = sym (rename-draw D g a) ∙ ap (draw D) (same-renamed g h a b e s) ∙ rename-draw D h b
 
 -- ---- numbers that stay
@@ -172,7 +177,7 @@ kept-drawing g (at v x b c) s =
     λ i. at (s .0 i) x (first i) (others i)
 
 -- a drawing looks only at what its own nodes need
-pub draw-kept : (D : Distance) (g : ℕ → ℕ) (f : Forest) → All (λ v. g v ≡ v) (preorder f) → draw D f ≡ draw (needBy g D) f
+pub draw-kept : (D : Spacing) (g : ℕ → ℕ) (f : Forest) → All (λ v. g v ≡ v) (preorder f) → draw D f ≡ draw (spacedBy g D) f
 draw-kept D g f s =
     ap (draw D) (sym (kept-forest g f s)) ∙ rename-draw D g f
-    ∙ kept-drawing g (draw (needBy g D) f) (rw (names-draw (needBy g D) f) s)
+    ∙ kept-drawing g (draw (spacedBy g D) f) (rw (names-draw (spacedBy g D) f) s)

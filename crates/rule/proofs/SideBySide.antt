@@ -8,7 +8,6 @@ use native.Mathlib.Nat.{le-refl}
 use native.Mathlib.Omega.{arith}
 use lib.IntN.{ℤ, pos, _+ℤ_}
 use lib.Signed.{_≤ℤ_, _<ℤ_, ≤ℤ-refl, <ℤ-irrefl, clashℤ}
-use Rattle.distance.specs.Needed.{Distance}
 use Rattle.tree.specs.Numbers.{count, flatMap}
 use Rattle.tree.specs.Table.{nodes}
 use Rattle.tree.specs.Forest.{treeOf}
@@ -19,6 +18,7 @@ use Rattle.tree.proofs.Tests.{counted-all, in-cons, in-append}
 use Rattle.tree.proofs.Stands.{accepted-numbers, accepted-inside}
 use Rattle.tree.proofs.LevelOf.{count-levels}
 use Rattle.tree.proofs.Leveled.{Leveled, accepted-leveled}
+use Rattle.rule.specs.Join.{Spacing}
 use Rattle.rule.specs.Record.{isPair, pairCount}
 use Rattle.rule.specs.Result.{place}
 use Rattle.rule.proofs.Signed.{at-most, parts-le, parts-add, not-le}
@@ -201,7 +201,7 @@ module _ (lev : ℕ → ℕ) (spot : ℕ → ℤ) (D : ℕ) (some : 1 ≤ D) whe
 
 -- ---- an accepted table
 
-module _ (N : Distance) (t : List ℕ) (some : (a b : ℕ) → 1 ≤ N a b) (accepted : tableNumber t ≡ 0) where
+module _ (N : Spacing) (t : List ℕ) (some : (a b : ℕ) → 1 ≤ N .need a b) (accepted : tableNumber t ≡ 0) where
   member : (v : ℕ) → v < nodes t → 1 ≤ count v (together (levels (treeOf t)))
   member v h = omega (arith, count-levels v (treeOf t), accepted-numbers t accepted .each v h)
 

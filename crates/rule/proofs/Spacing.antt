@@ -11,7 +11,7 @@ use Rattle.tree.specs.Levels.{beside}
 use Rattle.tree.proofs.Counting.{All, all-append, all-weaken, all-map}
 use Rattle.tree.proofs.Joined.{Some, some, beside-some}
 use Rattle.rule.specs.Drawing.{Drawing, none, width, middle, Dot, dot, dots, rowDots, firstOf, lastOf, leftContour, rightContour}
-use Rattle.rule.specs.Join.{Meeting, meet, shares, total, start, alone, join, meetings}
+use Rattle.rule.specs.Join.{Spacing, Meeting, meet, shares, total, added, movement, start, alone, join, meetings}
 use Rattle.rule.specs.Rule.{drawOnto}
 use Rattle.rule.proofs.Signed.{parts-add, AtMost}
 use Rattle.rule.proofs.Moving.{shiftBy, moveBy, settle, rowDots-join, dots-row, width-join}
@@ -177,9 +177,9 @@ alone-child D i w v x below R =
     record { some = (some, C .some); spaced = (tt, C .spaced); tags = ((refl, tt), C .tags) }
 
 -- the walk down a row and a new child, from the first level on
-pub row-walk : {D : Distance} {j : ℕ} (xs ys : List (List Dot)) → Row D j xs
-    → Walking D j j 0 xs ys (shares j (meet D 0 (rightContour xs) (leftContour ys))) (total (meet D 0 (rightContour xs) (leftContour ys)))
-row-walk {D} {j} xs ys R = record { falling = R .falling; owned = each xs (R .some) (R .tags); moves = λ p h. refl; whole = omega arith }
+pub row-walk : {D : Distance} {j : ℕ} (extra : ℕ) (xs ys : List (List Dot)) → Row D j xs
+    → Walking D j j 0 xs ys (shares j (meet D 0 (rightContour xs) (leftContour ys))) (total (meet D 0 (rightContour xs) (leftContour ys)) + extra) extra
+row-walk {D} {j} extra xs ys R = record { falling = R .falling; owned = each xs (R .some) (R .tags); moves = λ p h. refl; whole = omega arith }
   where
     each : (xs : List (List Dot)) → All Some xs → All (All (λ e. e .child < j)) xs → All (λ x. (lastOf x) .child ≤ j) xs
     each [] s a = tt
@@ -187,36 +187,42 @@ row-walk {D} {j} xs ys R = record { falling = R .falling; owned = each xs (R .so
 
 -- ---- every row that is drawn
 
-pub row-join : (D : Distance) (row : Drawing) (v : ℕ) (below : Drawing) → Row D (width row) (rowDots 0 row) → Row D (width below) (rowDots 0 below)
-    → Row D (width (join D row v below)) (rowDots 0 (join D row v below))
+pub row-join : (D : Spacing) (row : Drawing) (v : ℕ) (below : Drawing) → Row (D .need) (width row) (rowDots 0 row) → Row (D .need) (width below) (rowDots 0 below)
+    → Row (D .need) (width (join D row v below)) (rowDots 0 (join D row v below))
 row-join D row v below R B =
-    subst₂ (Row D) (sym (width-join D row v below)) (sym (rowDots-join D row v below))
-    (row-beside D j (map (map (moveBy m)) xs) (map (map (shiftBy (pos (total ms)))) ys)
-    (row-move D j m (shares-mono j ms) xs R) (child-shift D j (pos (total ms)) ys C)
-    (seams-touch D j m (total ms) xs ys (R .some) (C .some) (R .tags) (C .tags) (walk-seams xs ys (row-walk xs ys R))))
+    subst₂ (Row (D .need)) (sym (width-join D row v below)) (sym (rowDots-join D row v below))
+    (row-beside N j (map (map (moveBy m)) xs) (map (map (shiftBy (pos t))) ys)
+    (row-move N j m (shares-mono j ms) xs R) (child-shift N j (pos t) ys C)
+    (seams-touch N j m t xs ys (R .some) (C .some) (R .tags) (C .tags) (walk-seams xs ys (row-walk (added (D .extra) ms) xs ys R))))
   where
+    N : Distance
+    N = D .need
+
     j : ℕ
     j = width row
 
     ms : List Meeting
-    ms = meetings D row v below
+    ms = meetings (D .need) row v below
 
     m : ℕ → ℕ
     m = shares j ms
+
+    t : ℕ
+    t = movement (D .extra) ms
 
     xs : List (List Dot)
     xs = rowDots 0 row
 
     ys : List (List Dot)
-    ys = dots (width row) (pos 0) (alone v (start D row v) below)
+    ys = dots (width row) (pos 0) (alone v (start (D .need) row v) below)
 
-    C : Child D j ys
-    C = alone-child D (width row) (width below) v (start D row v) below B
+    C : Child (D .need) j ys
+    C = alone-child (D .need) (width row) (width below) v (start (D .need) row v) below B
 
-pub row-none : (D : Distance) → Row D 0 []
-row-none D = record { some = tt; spaced = tt; falling = tt; tags = tt }
+pub row-none : {D : Distance} → Row D 0 []
+row-none = record { some = tt; spaced = tt; falling = tt; tags = tt }
 
-pub row-drawOnto : (D : Distance) (row : Drawing) (f : Forest) → Row D (width row) (rowDots 0 row) → Row D (width (drawOnto D row f)) (rowDots 0 (drawOnto D row f))
+pub row-drawOnto : (D : Spacing) (row : Drawing) (f : Forest) → Row (D .need) (width row) (rowDots 0 row) → Row (D .need) (width (drawOnto D row f)) (rowDots 0 (drawOnto D row f))
 row-drawOnto D row nil R = R
 row-drawOnto D row (node v f g) R =
-    row-drawOnto D (join D row v (drawOnto D none f)) g (row-join D row v (drawOnto D none f) R (row-drawOnto D none f (row-none D)))
+    row-drawOnto D (join D row v (drawOnto D none f)) g (row-join D row v (drawOnto D none f) R (row-drawOnto D none f row-none))

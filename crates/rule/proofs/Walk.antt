@@ -25,13 +25,13 @@ Seams D m t (x ∷ xs) [] = Unit {0}
 Seams D m t (x ∷ xs) (y ∷ ys) =
     AtMost ((lastOf x) .place +ℤ pos (m ((lastOf x) .child)) +ℤ pos (D ((lastOf x) .node) ((firstOf y) .node))) ((firstOf y) .place +ℤ pos t) × Seams D m t xs ys
 
--- The walk from a level on. The new child, with the number j, has moved by `moved` so far and moves by t in all; a child up to c, the one
--- that was met last, moves by its shares in what is yet to be met.
-pub record Walking (D : Distance) (j c moved : ℕ) (xs ys : List (List Dot)) (m : ℕ → ℕ) (t : ℕ) : Type 0 where
+-- The walk from a level on. The new child, with the number j, has moved by `moved` so far and moves by t in all, of which `extra` is added
+-- after the walk; a child up to c, the one that was met last, moves by its shares in what is yet to be met.
+pub record Walking (D : Distance) (j c moved : ℕ) (xs ys : List (List Dot)) (m : ℕ → ℕ) (t extra : ℕ) : Type 0 where
   pub falling : Falling c xs
   pub owned : All (λ x. (lastOf x) .child ≤ j) xs
   pub moves : (p : ℕ) → p ≤ c → m p ≡ shares j (meet D moved (rightContour xs) (leftContour ys)) p
-  pub whole : t ≡ moved + total (meet D moved (rightContour xs) (leftContour ys))
+  pub whole : t ≡ moved + total (meet D moved (rightContour xs) (leftContour ys)) + extra
 
 -- what is met on a level
 abbrev pub met : Distance → ℕ → List Dot → List Dot → Meeting
@@ -41,9 +41,9 @@ met D moved x y =
       amount = shortfall (D ((lastOf x) .node) ((firstOf y) .node)) ((lastOf x) .place) ((firstOf y) .place +ℤ pos moved);
     }
 
-module _ {D : Distance} {j c moved : ℕ} {x y : List Dot} {xs ys : List (List Dot)} {m : ℕ → ℕ} {t : ℕ} (W : Walking D j c moved (x ∷ xs) (y ∷ ys) m t) where
+module _ {D : Distance} {j c moved : ℕ} {x y : List Dot} {xs ys : List (List Dot)} {m : ℕ → ℕ} {t extra : ℕ} (W : Walking D j c moved (x ∷ xs) (y ∷ ys) m t extra) where
   -- the walk from the next level on
-  pub walk-on : Walking D j ((lastOf x) .child) (moved + met D moved x y .amount) xs ys m t
+  pub walk-on : Walking D j ((lastOf x) .child) (moved + met D moved x y .amount) xs ys m t extra
   walk-on =
       record {
         falling = W .falling .1;
@@ -74,7 +74,7 @@ shortfall-enough d a b moved =
       parts-add b (pos (moved + shortfall d a (b +ℤ pos moved))),
     )
 
-pub walk-seams : {D : Distance} {j c moved : ℕ} (xs ys : List (List Dot)) {m : ℕ → ℕ} {t : ℕ} → Walking D j c moved xs ys m t → Seams D m t xs ys
+pub walk-seams : {D : Distance} {j c moved : ℕ} (xs ys : List (List Dot)) {m : ℕ → ℕ} {t extra : ℕ} → Walking D j c moved xs ys m t extra → Seams D m t xs ys
 walk-seams [] ys W = tt
 walk-seams (x ∷ xs) [] W = tt
 walk-seams {D = D} {moved = moved} (x ∷ xs) (y ∷ ys) {m} {t} W =

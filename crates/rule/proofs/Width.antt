@@ -1,9 +1,10 @@
--- How wide a drawing is: where no two nodes need more than W, joining adds at most W, so a forest of m nodes spans at most m - 1 times W. Assumes nothing.
-use mathlib.Core.Path.{_≡_, refl, sym, ap, _∙_, subst, subst₂}
+-- How wide a drawing is: where no two nodes need more than W, joining adds at most W, and the extra space E where the child is no leaf. So a forest
+-- of m nodes spans at most m - 1 times W, and half that many times E. Assumes nothing.
+use mathlib.Core.Path.{_≡_, refl, sym, ap, subst, subst₂}
 use mathlib.Core.Logic.{_⊎_, inl, inr, ⊎-elim}
 use mathlib.Core.List.{List, [], _∷_, map, List·Memᴰ·head, List·Memᴰ·cases-cons, List·Memᴰ·not-nil, List·Memᴰ·eq-of-singleton}
-use Prim.Native.Nat.{ℕ, zero, suc, _+_, _*_, _≤_}
-use native.Mathlib.Nat.{not-suc-le-zero, le-refl}
+use Prim.Native.Nat.{ℕ, zero, suc, _+_, _*_, _/_, _≤_}
+use native.Mathlib.Nat.{not-suc-le-zero, le-refl, le-trans, mul-le-mul-left, mul-le-mul-right}
 use native.Mathlib.Omega.{arith}
 use lib.IntN.{ℤ, pos, _+ℤ_, _-ℤ_}
 use Rattle.distance.specs.Needed.{Distance}
@@ -12,7 +13,7 @@ use Rattle.tree.specs.Levels.{beside}
 use Rattle.tree.proofs.Counting.{below-or-not}
 use Rattle.tree.proofs.Joined.{size-join}
 use Rattle.rule.specs.Drawing.{Drawing, none, at, width, lastPlace, middle, Dot, dot, dots, rowDots}
-use Rattle.rule.specs.Join.{Meeting, above0, shares, total, start, alone, join, meetings}
+use Rattle.rule.specs.Join.{Spacing, Meeting, above0, shares, added, movement, start, alone, join, meetings}
 use Rattle.rule.specs.Rule.{drawOnto, draw}
 use Rattle.rule.proofs.Signed.{below0, parts-add, parts-sub, parts-eq, AtMost}
 use Rattle.rule.proofs.Names.{names, names-join, names-draw}
@@ -21,6 +22,7 @@ use Rattle.rule.proofs.Shares.{shares-mono}
 use Rattle.rule.proofs.OnLevel.{OnLevel, top, down, on-left, on-right, on-cases, on-map, on-moved, on-some}
 use Rattle.rule.proofs.Spacing.{Row, Child, row-join, row-none, row-drawOnto, row-walk, alone-child}
 use Rattle.rule.proofs.Exact.{Measured, exact-dots, join-exact}
+use Rattle.rule.proofs.Significant.{added-at-most, leaf-added}
 use Rattle.rule.proofs.Led.{Led, stay-or-led}
 
 -- ---- no dot stands further than w right of another
@@ -42,8 +44,8 @@ narrow-map w c g h xs n e f l k o p =
 
 -- Where every dot of the row stays or is led, a dot of the join is not right of a dot of the row as it was, or of one of the child as it
 -- is now; and it is not left of one.
-module _ (D : Distance) (W : ℕ) (most : (a b : ℕ) → D a b ≤ W) (m : ℕ → ℕ) (t : ℕ) (xs ys : List (List Dot)) (w v : ℕ) (nx : Narrow w xs) (ny : Narrow v ys)
-    (M : Measured D m t xs ys)
+module _ (D : Distance) (W : ℕ) (most : (a b : ℕ) → D a b ≤ W) (extra : ℕ) (m : ℕ → ℕ) (t : ℕ) (xs ys : List (List Dot)) (w v : ℕ) (nx : Narrow w xs) (ny : Narrow v ys)
+    (M : Measured D extra m t xs ys)
     (led : (d : Dot) (l : ℕ) → OnLevel d l xs → (m (d .child) ≡ 0) ⊎ Led m t d l ys) where
   abbrev joined : List (List Dot)
   joined = beside (map (map (moveBy m)) xs) (map (map (shiftBy (pos t))) ys)
@@ -64,16 +66,16 @@ module _ (D : Distance) (W : ℕ) (most : (a b : ℕ) → D a b ≤ W) (m : ℕ 
       (on-moved (shiftBy (pos t)) ys (λ f. Bound (λ z. AtMost z (f .place))) (λ d p. inr (d, l, p, le-refl _)) f)
       (on-cases (map (map (moveBy m)) xs) (map (map (shiftBy (pos t))) ys) o)
 
-  narrow-join : Narrow (w + v + W) joined
+  narrow-join : Narrow (w + v + W + extra) joined
   narrow-join e f l k o p =
       let left = M .left .place in
       let right = M .right .place in
-      let past = parts-add (f .place) (pos (w + v + W)) in
+      let past = parts-add (f .place) (pos (w + v + W + extra)) in
       let bound = most (M .left .node) (M .right .node) in
       let above = ap above0 (M .exactly) in
       let below = ap below0 (M .exactly) in
       let new = parts-add right (pos t) in
-      let old = parts-add left (pos (D (M .left .node) (M .right .node))) in
+      let old = parts-add left (pos (D (M .left .node) (M .right .node) + extra)) in
       ⊎-elim (λ a.
       ⊎-elim (λ b. omega (arith, nx (a .0) (b .0) (a .1) (b .1) (a .2) (b .2), parts-add (b .0 .place) (pos w)))
       (λ b.
@@ -179,72 +181,120 @@ narrow-alone w i v x (at u y b c) n =
 -- ---- every row that is drawn
 
 -- the width that m nodes may take
-abbrev pub span : ℕ → ℕ → ℕ
-span W zero = 0
-span W (suc m) = m * W
+abbrev pub span : ℕ → ℕ → ℕ → ℕ
+span W E zero = 0
+span W E (suc m) = m * W + m / 2 * E
 
-span-mono : (W m : ℕ) → span W m ≤ m * W
-span-mono W zero = omega arith
-span-mono W (suc m) = omega arith
+-- 1,024 nodes that need at most 1,536 take at most 1,023 * 1,536, and 511 times the extra space
+pub span-small : (W E m : ℕ) → m ≤ 1024 → W ≤ 1536 → span W E m ≤ 1571328 + 511 * E
+span-small W E zero h hW = omega arith
+span-small W E (suc m) h hW =
+    let few : m ≤ 1023 = omega arith in
+    let halves : m / 2 ≤ 511 = omega arith in
+    omega (arith, le-trans (mul-le-mul-right W few) (mul-le-mul-left 1023 hW), mul-le-mul-right E halves)
+
+-- the width that a row of a nodes and a child with b nodes below it may take, where e is added
+abbrev Room : ℕ → ℕ → ℕ → ℕ → ℕ → Type 0
+Room W E a b e = span W E (suc a) + span W E b + W + e ≤ span W E (suc (a + suc b))
+
+room-leaf : (W E a : ℕ) → Room W E a 0 0
+room-leaf W E a = let halves : a / 2 ≤ (a + 1) / 2 = omega arith in omega (arith, mul-le-mul-right E halves)
+
+room-child : (W E a b e : ℕ) → e ≤ E → Room W E a (suc b) e
+room-child W E a b e h = let halves : a / 2 + b / 2 + 1 ≤ (a + suc (suc b)) / 2 = omega arith in omega (arith, mul-le-mul-right E halves)
+
+-- a node above b others takes no more
+span-node : (W E b : ℕ) → span W E b ≤ span W E (suc b)
+span-node W E zero = omega arith
+span-node W E (suc b) = let halves : b / 2 ≤ suc b / 2 = omega arith in omega (arith, mul-le-mul-right E halves)
 
 narrow-wider : (w v : ℕ) (xs : List (List Dot)) → w ≤ v → Narrow w xs → Narrow v xs
 narrow-wider w v xs h n e f l k o p = omega (arith, n e f l k o p, parts-add (f .place) (pos w), parts-add (f .place) (pos v))
 
-narrow-row-join : (D : Distance) (W : ℕ) → ((a b : ℕ) → D a b ≤ W) → (row : Drawing) (v : ℕ) (below : Drawing) → Row D (width row) (rowDots 0 row) → Row D (width below) (rowDots 0 below)
-    → Narrow (span W (size (names row))) (rowDots 0 row) → Narrow (span W (size (names below))) (rowDots 0 below)
-    → Narrow (span W (size (names (join D row v below)))) (rowDots 0 (join D row v below))
-narrow-row-join D W most none v below R B n b =
-    let fits : span W (size (names below)) ≤ (size (names below) + 0) * W = omega (arith, span-mono W (size (names below))) in
-    subst₂ Narrow (sym (ap (λ (f : Forest). span W (size f)) (names-join D none v below))) (sym (rowDots-join D none v below))
-    (narrow-map _ (pos 0) (shiftBy (pos 0)) (λ e. refl) (dots 0 (pos 0) (alone v 0 below))
-    (narrow-wider (span W (size (names below))) _ (dots 0 (pos 0) (alone v 0 below)) fits (narrow-alone (span W (size (names below))) 0 v 0 below b)))
-narrow-row-join D W most (at u x under after) v below R B n b =
-    subst₂ Narrow (sym sizes) (sym (rowDots-join D row v below))
-    (narrow-join D W most m (total ms) xs ys (span W (size (names row))) (size (names below) * W) n
-    (narrow-wider (span W (size (names below))) _ ys (span-mono W (size (names below))) (narrow-alone (span W (size (names below))) j v (start D row v) below b))
-    (exact-dots D m (total ms) xs ys (R .some) (C .some) (join-exact D u x under after v below R))
-    (stay-or-led xs ys (shares-mono j ms) (R .spaced) (C .some) (row-walk xs ys R)))
-  where
-    row : Drawing
-    row = at u x under after
+-- Where no two nodes need more than W,
+module _ (D : Spacing) (W : ℕ) (most : (a b : ℕ) → D .need a b ≤ W) where
+  -- the nodes of a drawing bound its width
+  abbrev Fits : Drawing → Type 0
+  Fits d = Narrow (span W (D .extra) (size (names d))) (rowDots 0 d)
 
-    j : ℕ
-    j = width row
+  narrow-row-join : (row : Drawing) (v : ℕ) (below : Drawing) → Row (D .need) (width row) (rowDots 0 row) → Row (D .need) (width below) (rowDots 0 below)
+      → Fits row → Fits below → Fits (join D row v below)
+  narrow-row-join none v below R B n b =
+      let further = pos (movement (D .extra) (meetings (D .need) none v below)) in
+      let m = size (names below) in
+      let sizes : suc m ≡ size (names (join D none v below)) = omega (arith, ap size (names-join D none v below)) in
+      subst₂ Narrow (ap (span W (D .extra)) sizes) (sym (rowDots-join D none v below))
+      (narrow-map _ further (shiftBy further) (λ e. refl) (dots 0 (pos 0) (alone v 0 below))
+      (narrow-wider (span W (D .extra) m) _ (dots 0 (pos 0) (alone v 0 below)) (span-node W (D .extra) m) (narrow-alone (span W (D .extra) m) 0 v 0 below b)))
+  narrow-row-join (at u x under after) v below R B n b =
+      subst (Narrow _) (sym (rowDots-join D row v below))
+      (narrow-wider _ _ _ fits
+      (narrow-join N W most extra m t xs ys (span W E (size (names row))) (span W E (size (names below))) n
+      (narrow-alone (span W E (size (names below))) j v (start N row v) below b)
+      (exact-dots N extra m t xs ys (R .some) (C .some) (join-exact N extra u x under after v below R))
+      (stay-or-led xs ys (shares-mono j ms) (R .spaced) (C .some) (row-walk extra xs ys R))))
+    where
+      N : Distance
+      N = D .need
 
-    ms : List Meeting
-    ms = meetings D row v below
+      E : ℕ
+      E = D .extra
 
-    m : ℕ → ℕ
-    m = shares j ms
+      row : Drawing
+      row = at u x under after
 
-    xs : List (List Dot)
-    xs = rowDots 0 row
+      j : ℕ
+      j = width row
 
-    ys : List (List Dot)
-    ys = dots j (pos 0) (alone v (start D row v) below)
+      ms : List Meeting
+      ms = meetings N row v below
 
-    C : Child D j ys
-    C = alone-child D j (width below) v (start D row v) below B
+      extra : ℕ
+      extra = added E ms
 
-    sizes : span W (size (names (join D row v below))) ≡ span W (size (names row)) + size (names below) * W + W
-    sizes =
-        let counted : size (names row) + size (node v (names below) nil) ≡ suc ((size (names under) + size (names after)) + suc (size (names below))) = omega arith in
-        ap (λ (f : Forest). span W (size f)) (names-join D row v below) ∙ ap (span W) (size-join (names row) (node v (names below) nil) ∙ counted) ∙ omega arith
+      m : ℕ → ℕ
+      m = shares j ms
+
+      t : ℕ
+      t = movement E ms
+
+      xs : List (List Dot)
+      xs = rowDots 0 row
+
+      ys : List (List Dot)
+      ys = dots j (pos 0) (alone v (start N row v) below)
+
+      C : Child N j ys
+      C = alone-child N j (width below) v (start N row v) below B
+
+      a : ℕ
+      a = size (names under) + size (names after)
+
+      room : (d : Drawing) → Room W E a (size (names d)) (added E (meetings N row v d))
+      room none = rw leaf-added (room-leaf W E a)
+      room (at z y b c) = room-child W E a (size (names b) + size (names c)) _ (added-at-most E (meetings N row v (at z y b c)))
+
+      fits : span W E (size (names row)) + span W E (size (names below)) + W + extra ≤ span W E (size (names (join D row v below)))
+      fits =
+          let counted : suc (a + suc (size (names below))) ≡ size (names (join D row v below)) =
+          omega (arith, ap size (names-join D row v below), size-join (names row) (node v (names below) nil)) in
+          subst (λ (k : ℕ). span W E (size (names row)) + span W E (size (names below)) + W + extra ≤ span W E k) counted (room below)
 
 pub narrow-none : Narrow 0 []
 narrow-none e f l k o p = absurd (not-suc-le-zero (on-some o))
 
-pub narrow-drawOnto : (D : Distance) (W : ℕ) → ((a b : ℕ) → D a b ≤ W) → (row : Drawing) (f : Forest) → Row D (width row) (rowDots 0 row) → Narrow (span W (size (names row))) (rowDots 0 row)
-    → Narrow (span W (size (names (drawOnto D row f)))) (rowDots 0 (drawOnto D row f))
-narrow-drawOnto D W most row nil R n = n
-narrow-drawOnto D W most row (node v f g) R n =
-    let B = row-drawOnto D none f (row-none D) in
-    narrow-drawOnto D W most (join D row v (drawOnto D none f)) g (row-join D row v (drawOnto D none f) R B)
-    (narrow-row-join D W most row v (drawOnto D none f) R B n (narrow-drawOnto D W most none f (row-none D) narrow-none))
+module _ (D : Spacing) (W : ℕ) (most : (a b : ℕ) → D .need a b ≤ W) where
+  pub narrow-drawOnto : (row : Drawing) (f : Forest) → Row (D .need) (width row) (rowDots 0 row) → Narrow (span W (D .extra) (size (names row))) (rowDots 0 row)
+      → Narrow (span W (D .extra) (size (names (drawOnto D row f)))) (rowDots 0 (drawOnto D row f))
+  narrow-drawOnto row nil R n = n
+  narrow-drawOnto row (node v f g) R n =
+      let B = row-drawOnto D none f row-none in
+      narrow-drawOnto (join D row v (drawOnto D none f)) g (row-join D row v (drawOnto D none f) R B)
+      (narrow-row-join D W most row v (drawOnto D none f) R B n (narrow-drawOnto none f row-none narrow-none))
 
--- a drawing of m nodes spans at most m - 1 times W
-pub narrow-draw : (D : Distance) (W : ℕ) → ((a b : ℕ) → D a b ≤ W) → (i : ℕ) (o : ℤ) (f : Forest) → Narrow (span W (size f)) (dots i o (draw D f))
-narrow-draw D W most i o f =
-    rw (dots-row i 0 o (draw D f))
-    (narrow-map (span W (size f)) o (settle i o) (λ e. refl) (rowDots 0 (draw D f))
-    (rw (names-draw D f) at (narrow-drawOnto D W most none f (row-none D) narrow-none)))
+  -- a drawing of m nodes
+  pub narrow-draw : (i : ℕ) (o : ℤ) (f : Forest) → Narrow (span W (D .extra) (size f)) (dots i o (draw D f))
+  narrow-draw i o f =
+      rw (dots-row i 0 o (draw D f))
+      (narrow-map (span W (D .extra) (size f)) o (settle i o) (λ e. refl) (rowDots 0 (draw D f))
+      (rw (names-draw D f) at (narrow-drawOnto none f row-none narrow-none)))

@@ -6,7 +6,6 @@ use Prim.Native.Nat.{ℕ, suc, _+_}
 use native.Mathlib.Nat.{zero-add, suc-add}
 use native.Mathlib.Omega.{arith}
 use lib.IntN.{ℤ, pos, _+ℤ_, _-ℤ_}
-use Rattle.distance.specs.Needed.{Distance}
 use Rattle.tree.specs.Forest.{Forest, nil, node}
 use Rattle.tree.proofs.Parts.{Part, whole, in-children, in-siblings}
 use Rattle.tree.specs.Levels.{Pair}
@@ -17,7 +16,7 @@ use Rattle.rule.proofs.Names.{names}
 use Rattle.rule.proofs.OnLevel.{OnLevel, top, down, on-left, on-right}
 use Rattle.rule.proofs.Shapes.{renameDrawing, rename-middle}
 use Rattle.rule.specs.Drawing.{Drawing, none, at, width, append, firstPlace, middle, Dot, dot, dots}
-use Rattle.rule.specs.Join.{Meeting, spread, alone, join, meetings, settled}
+use Rattle.rule.specs.Join.{Spacing, Meeting, spread, alone, join, meetings, settled}
 use Rattle.rule.specs.Rule.{drawOnto, draw}
 
 -- ---- the drawing below node v is b
@@ -41,18 +40,18 @@ has-right : {v : ℕ} {b e : Drawing} (d : Drawing) → Has v b e → Has v b (a
 has-right none h = h
 has-right (at u x under after) h = beyond (has-right after h)
 
-has-drawOnto : (D : Distance) {v : ℕ} {b row : Drawing} (f : Forest) → Has v b row → Has v b (drawOnto D row f)
+has-drawOnto : (D : Spacing) {v : ℕ} {b row : Drawing} (f : Forest) → Has v b row → Has v b (drawOnto D row f)
 has-drawOnto D nil h = h
 has-drawOnto D {row = row} (node u f g) h =
     has-drawOnto D g (has-left (alone u (settled D row u (drawOnto D none f)) (drawOnto D none f))
-    (has-spread (width row) (meetings D row u (drawOnto D none f)) 0 h))
+    (has-spread (width row) (meetings (D .need) row u (drawOnto D none f)) 0 h))
 
 -- what is drawn below a node of a forest is the drawing of the node's children
-pub has-draw : (D : Distance) (row : Drawing) {v : ℕ} {a b f : Forest} → Part (node v a b) f → Has v (draw D a) (drawOnto D row f)
+pub has-draw : (D : Spacing) (row : Drawing) {v : ℕ} {a b f : Forest} → Part (node v a b) f → Has v (draw D a) (drawOnto D row f)
 has-draw D row {v} {a} {b} whole =
-    has-drawOnto D b (has-right (spread (width row) (meetings D row v (draw D a)) 0 row) here)
+    has-drawOnto D b (has-right (spread (width row) (meetings (D .need) row v (draw D a)) 0 row) here)
 has-draw D row {v} {a} (in-children {v = u} {f = f} {h = g} p) =
-    has-drawOnto D g (has-right (spread (width row) (meetings D row u (draw D f)) 0 row) (below (has-draw D none p)))
+    has-drawOnto D g (has-right (spread (width row) (meetings (D .need) row u (draw D f)) 0 row) (below (has-draw D none p)))
 has-draw D row (in-siblings {v = u} {f = f} {h = g} p) = has-draw D (join D row u (draw D f)) p
 
 -- node v stands at place x on level l, and what is drawn below it stands on the levels below, its count starting at x less the middle

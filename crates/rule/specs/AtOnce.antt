@@ -7,7 +7,7 @@ use lib.ListN.{length, drop}
 use Rattle.distance.specs.Needed.{Distance}
 use Rattle.tree.specs.Forest.{Forest, nil, node}
 use Rattle.rule.specs.Drawing.{Drawing, none, width, append, Dot, dots, leftContour}
-use Rattle.rule.specs.Join.{shortfall, spread, start, alone, rowContour}
+use Rattle.rule.specs.Join.{Spacing, shortfall, spread, start, alone, rowContour, meetings, added}
 
 -- a row, and the place of the child that is being joined to it
 pub record Joining : Type 0 where
@@ -36,14 +36,15 @@ abbrev pub walkDown : Distance → ℕ → ℕ → ℕ → ℕ → Drawing → J
 walkDown need zero l j v below s = s
 walkDown need (suc k) l j v below s = walkDown need k (suc l) j v below (walkLevel need l j v below s)
 
--- the join, for as many levels as the row's contour has
-abbrev pub joinAtOnce : Distance → Drawing → ℕ → Drawing → Drawing
-joinAtOnce need row v below =
+-- the join, for as many levels as the row's contour has; then the extra space is added
+abbrev pub joinAtOnce : Spacing → Drawing → ℕ → Drawing → Drawing
+joinAtOnce spacing row v below =
+    let need = spacing .need in
     let s = walkDown need (length (rowContour row)) 0 (width row) v below (record { row = row; place = start need row v }) in
-    withChild s v below
+    withChild (record { row = s .row; place = s .place + added (spacing .extra) (meetings need row v below) }) v below
 
 -- the drawing of a forest by such joins
-abbrev pub drawOntoAtOnce : Distance → Drawing → Forest → Drawing
-drawOntoAtOnce need row nil = row
-drawOntoAtOnce need row (node v below after) =
-    drawOntoAtOnce need (joinAtOnce need row v (drawOntoAtOnce need none below)) after
+abbrev pub drawOntoAtOnce : Spacing → Drawing → Forest → Drawing
+drawOntoAtOnce spacing row nil = row
+drawOntoAtOnce spacing row (node v below after) =
+    drawOntoAtOnce spacing (joinAtOnce spacing row v (drawOntoAtOnce spacing none below)) after

@@ -1,11 +1,27 @@
--- Joining the next child to a row of children: the walk down two contours, and what it moves. `need a b` is the distance that node b needs
--- where it stands right of node a.
+-- Joining the next child to a row of children: the walk down two contours, what it moves, and what is added after it.
 use Prim.Native.Nat.{ℕ, _+_, _-_, _*_, _/_}
+use mathlib.Core.Bool.{Bool, false, cond}
 use mathlib.Core.List.{List, [], _∷_}
+use lib.Dec.{ltb}
 use lib.IntN.{ℤ, pos, negsuc, _+ℤ_, _-ℤ_}
 use Rattle.distance.specs.Needed.{Distance}
 use Rattle.tree.specs.Levels.{Pair}
 use Rattle.rule.specs.Drawing.{Drawing, none, at, width, append, Dot, dots, rowDots, leftContour, rightContour}
+
+-- ---- what keeps nodes apart
+
+-- `need a b` is the distance that node b needs where it stands right of node a, and `extra` the space that is added between the subtrees of a
+-- significant node
+pub record Spacing : Type 0 where
+  pub need : Distance
+  pub extra : ℕ
+
+abbrev pub spaced : Distance → ℕ → Spacing
+spaced need extra = record { need = need; extra = extra }
+
+-- the plain rule adds nothing
+abbrev pub plain : Distance → Spacing
+plain need = spaced need 0
 
 -- ---- the walk
 
@@ -40,7 +56,7 @@ measure (a ∷ us) (b ∷ ws) = (a .node, b .node) ∷ measure us ws
 
 -- ---- what moves
 
--- how far the new child moves
+-- how far the conflicts move the new child
 abbrev pub total : List Meeting → ℕ
 total [] = 0
 total (m ∷ ms) = m .amount + total ms
@@ -70,6 +86,21 @@ abbrev pub spread : ℕ → List Meeting → ℕ → Drawing → Drawing
 spread j ms p none = none
 spread j ms p (at v x below after) = at v (x + shares j ms p) below (spread j ms (p + 1) after)
 
+-- ---- what is added after the walk
+
+-- The first level of the walk is the children's own. A node is significant if joining its children met a conflict below that level.
+abbrev pub significant : List Meeting → Bool
+significant [] = false
+significant (own ∷ below) = ltb 0 (total below)
+
+-- the extra space is added once, and at a significant node alone
+unfoldable pub added : ℕ → List Meeting → ℕ
+added extra ms = cond (significant ms) extra 0
+
+-- how far the new child moves in all; no other child moves by what is added
+abbrev pub movement : ℕ → List Meeting → ℕ
+movement extra ms = total ms + added extra ms
+
 -- ---- the join
 
 -- where child v starts: the first child at 0, any other at the distance that the two need after the child before it
@@ -92,13 +123,14 @@ newContour need row v below = leftContour (dots (width row) (pos 0) (alone v (st
 abbrev pub meetings : Distance → Drawing → ℕ → Drawing → List Meeting
 meetings need row v below = meet need 0 (rowContour row) (newContour need row v below)
 
--- where child v stands after the walk
-abbrev pub settled : Distance → Drawing → ℕ → Drawing → ℕ
-settled need row v below = start need row v + total (meetings need row v below)
+-- where child v stands then
+abbrev pub settled : Spacing → Drawing → ℕ → Drawing → ℕ
+settled spacing row v below =
+    start (spacing .need) row v + movement (spacing .extra) (meetings (spacing .need) row v below)
 
-abbrev pub join : Distance → Drawing → ℕ → Drawing → Drawing
-join need row v below =
-    append (spread (width row) (meetings need row v below) 0 row) (alone v (settled need row v below) below)
+abbrev pub join : Spacing → Drawing → ℕ → Drawing → Drawing
+join spacing row v below =
+    append (spread (width row) (meetings (spacing .need) row v below) 0 row) (alone v (settled spacing row v below) below)
 
 -- the pairs that the join measures
 abbrev pub measured : Distance → Drawing → ℕ → Drawing → List Pair

@@ -9,7 +9,7 @@ use lib.Signed.{leZ}
 use lib.ListN.{length, replicate}
 use Rattle.refusal.specs.First.{_⇐_, first}
 use Rattle.refusal.specs.After.{granted, after}
-use Rattle.distance.specs.Needed.{Distance, needed, badSeparation, badHalfWidths}
+use Rattle.distance.specs.Needed.{needed, badSeparation, badHalfWidths}
 use Rattle.tree.specs.Numbers.{upTo}
 use Rattle.tree.specs.Table
 use Rattle.tree.specs.Levels
@@ -17,6 +17,7 @@ use Rattle.tree.specs.Table.{nodes}
 use Rattle.tree.specs.Levels.{together, level, levelCount, neighbours}
 use Rattle.tree.specs.WellFormed.{tableConditions}
 use Rattle.rule.specs.Drawing.{Dot}
+use Rattle.rule.specs.Join.{Spacing, plain}
 use Rattle.rule.specs.Rule.{drawn}
 use Rattle.rule.specs.Record.{flat}
 
@@ -28,12 +29,12 @@ placeIn [] v = pos 0
 placeIn (e ∷ l) v = cond (eqb v (e .node)) (e .place) (placeIn l v)
 
 -- the place of node v in a table's drawing
-unfoldable pub place : Distance → List ℕ → ℕ → ℤ
-place need t v = placeIn (together (drawn need t)) v
+unfoldable pub place : Spacing → List ℕ → ℕ → ℤ
+place spacing t v = placeIn (together (drawn spacing t)) v
 
 -- places and levels by node number
-unfoldable pub placesOf : Distance → List ℕ → List ℤ
-placesOf need t = map (place need t) (upTo (nodes t))
+unfoldable pub placesOf : Spacing → List ℕ → List ℤ
+placesOf spacing t = map (place spacing t) (upTo (nodes t))
 
 unfoldable pub levelsOf : List ℕ → List ℕ
 levelsOf t = map (level t) (upTo (nodes t))
@@ -87,15 +88,19 @@ pub record Answer : Type 0 where
   pub greatest : ℤ
   pub pairs : ℕ
 
--- what a call gives: the answer `a`, and the slices `u` where they held `s`
-pub record Layout (t : List ℕ) (separation : ℕ) (halfWidths : List ℕ) (s : Slices) (a : Answer) (u : Slices) : Type 0 where
-  pub number : a .number ≡ layoutNumber t separation halfWidths s
-  pub nodes : a .nodes ≡ granted (layoutNumber t separation halfWidths s) (Table.nodes t) 0
-  pub levelCount : a .levels ≡ granted (layoutNumber t separation halfWidths s) (Levels.levelCount t) 0
-  pub least : a .least ≡ granted (layoutNumber t separation halfWidths s) (leastOf (placesOf (needed separation halfWidths) t)) (pos 0)
-  pub greatest : a .greatest ≡ granted (layoutNumber t separation halfWidths s) (greatestOf (placesOf (needed separation halfWidths) t)) (pos 0)
-  pub pairs : a .pairs ≡ granted (layoutNumber t separation halfWidths s) (length (neighbours t)) 0
-  pub places : u .places ≡ after (layoutNumber t separation halfWidths s) (placesOf (needed separation halfWidths) t) (s .places)
-  pub levels : u .levels ≡ after (layoutNumber t separation halfWidths s) (levelsOf t) (s .levels)
-  pub theRecord : u .theRecord ≡ after (layoutNumber t separation halfWidths s) (flat (neighbours t)) (s .theRecord)
-  pub work : u .work ≡ after (layoutNumber t separation halfWidths s) (replicate (16 * Table.nodes t) (pos 0)) (s .work)
+-- what a call with the number k gives: the answer `a`, and the slices `u` where they held `s`
+pub record LaidOut (k : ℕ) (spacing : Spacing) (t : List ℕ) (s : Slices) (a : Answer) (u : Slices) : Type 0 where
+  pub number : a .number ≡ k
+  pub nodes : a .nodes ≡ granted k (Table.nodes t) 0
+  pub levelCount : a .levels ≡ granted k (Levels.levelCount t) 0
+  pub least : a .least ≡ granted k (leastOf (placesOf spacing t)) (pos 0)
+  pub greatest : a .greatest ≡ granted k (greatestOf (placesOf spacing t)) (pos 0)
+  pub pairs : a .pairs ≡ granted k (length (neighbours t)) 0
+  pub places : u .places ≡ after k (placesOf spacing t) (s .places)
+  pub levels : u .levels ≡ after k (levelsOf t) (s .levels)
+  pub theRecord : u .theRecord ≡ after k (flat (neighbours t)) (s .theRecord)
+  pub work : u .work ≡ after k (replicate (16 * Table.nodes t) (pos 0)) (s .work)
+
+-- what a call of the layout gives
+abbrev pub Layout : List ℕ → ℕ → List ℕ → Slices → Answer → Slices → Type 0
+Layout t separation halfWidths s a u = LaidOut (layoutNumber t separation halfWidths s) (plain (needed separation halfWidths)) t s a u

@@ -8,7 +8,7 @@ use borrow.Author.Count.{below-more}
 use lib.IntN.{ℤ, pos, _+ℤ_}
 use lib.Signed.{mag}
 use lib.ListN.{length, drop}
-use Rattle.distance.specs.Needed.{Distance}
+use Rattle.rule.specs.Join.{Spacing}
 use Rattle.tree.specs.Table.{nodes}
 use Rattle.tree.specs.WellFormed.{tableNumber}
 use Rattle.tree.proofs.LevelOf.{root-level}
@@ -22,14 +22,15 @@ use Rattle.level_order.proofs.Signed32.{mag-size}
 use Rattle.second_walk.specs.SecondWalk.{FromParent, Ready, Descends, descended, Seen}
 use Rattle.second_walk.proofs.Positions.{numberAt, placeAt, levelAt}
 
-pub record Stands (D : Distance) (t : List ℕ) (work : List ℤ) (q : ℕ) : Type 0 where
+pub record Stands (D : Spacing) (t : List ℕ) (work : List ℤ) (q : ℕ) : Type 0 where
   pub place : get work PLACE q ≡ placeAt D t q
   pub level : get work LEVEL q ≡ pos (levelAt t q)
   pub near : levelAt t q ≤ q
 
-pub record Descending (D : Distance) (t : List ℕ) (before work : List ℤ) (p : ℕ) : Type 0 where
+pub record Descending (D : Spacing) (t : List ℕ) (before work : List ℤ) (p : ℕ) : Type 0 where
   pub accepted : tableNumber t ≡ 0
-  pub small : (a b : ℕ) → D a b ≤ 1536
+  pub small : (a b : ℕ) → D .need a b ≤ 1536
+  pub little : D .extra ≤ 1024
   pub within : p ≤ nodes t
   pub fits : 16 * nodes t ≤ length work
   pub size : length work ≡ length before
@@ -39,7 +40,7 @@ pub record Descending (D : Distance) (t : List ℕ) (before work : List ℤ) (p 
   pub others : (q : ℕ) → p ≤ q → q < nodes t → FromParent D t work q
 
 -- another slice with the same offset and the same parent
-same-parent : {D : Distance} {t : List ℕ} {work work′ : List ℤ} {q : ℕ} → get work′ PARENT q ≡ get work PARENT q → get work′ PLACE q ≡ get work PLACE q
+same-parent : {D : Spacing} {t : List ℕ} {work work′ : List ℤ} {q : ℕ} → get work′ PARENT q ≡ get work PARENT q → get work′ PLACE q ≡ get work PLACE q
     → FromParent D t work q → FromParent D t work′ q
 same-parent {D} {t} e f F =
     record {
@@ -51,7 +52,7 @@ same-parent {D} {t} e f F =
     }
 
 -- position 0 is the root, on level 0, at place 0
-module _ {D : Distance} {t : List ℕ} {work work′ : List ℤ} (accepted : tableNumber t ≡ 0) (small : (a b : ℕ) → D a b ≤ 1536) (R : Ready D t work)
+module _ {D : Spacing} {t : List ℕ} {work work′ : List ℤ} (accepted : tableNumber t ≡ 0) (small : (a b : ℕ) → D .need a b ≤ 1536) (little : D .extra ≤ 1024) (R : Ready D t work)
     (e : work′ ≡ put work LEVEL 0 (pos 0)) where
   some : 0 < nodes t
   some = accepted-numbers t accepted .some
@@ -64,6 +65,7 @@ module _ {D : Distance} {t : List ℕ} {work work′ : List ℤ} (accepted : tab
       record {
         accepted = accepted;
         small = small;
+        little = little;
         within = some;
         fits = omega (arith, R .size, ap length e, put-length work LEVEL 0 (pos 0));
         size = refl;
@@ -84,7 +86,7 @@ module _ {D : Distance} {t : List ℕ} {work work′ : List ℤ} (accepted : tab
   pub rest-start : drop (16 * nodes t) work′ ≡ drop (16 * nodes t) work
   rest-start = rw e (put-rest work LEVEL 0 (pos 0) (omega arith) (nodes t) some)
 
-module _ {D : Distance} {t : List ℕ} {before work : List ℤ} {p : ℕ} (S : Descending D t before work p) where
+module _ {D : Spacing} {t : List ℕ} {before work : List ℤ} {p : ℕ} (S : Descending D t before work p) where
   -- what has been met can be read
   pub seen : (q : ℕ) → q < p → Seen work q (numberAt t q) (levelAt t q)
   seen q h =
@@ -162,6 +164,7 @@ module _ {D : Distance} {t : List ℕ} {before work : List ℤ} {p : ℕ} (S : D
           record {
             accepted = S .accepted;
             small = S .small;
+            little = S .little;
             within = omega arith;
             fits = omega (arith, size-same);
             size = size-same ∙ S .size;

@@ -8,7 +8,7 @@ use native.Mathlib.Omega.{arith}
 use borrow.Author.Count.{below-more}
 use lib.IntN.{ℤ, pos}
 use lib.Signed.{leZ, mag}
-use Rattle.distance.specs.Needed.{Distance}
+use Rattle.rule.specs.Join.{Spacing}
 use Rattle.tree.specs.Table.{nodes}
 use Rattle.tree.specs.WellFormed.{tableNumber}
 use Rattle.tree.proofs.Stands.{accepted-numbers}
@@ -23,15 +23,15 @@ abbrev pub AtLeast : ℤ → ℤ → Type 0
 AtLeast x y = AtMost y x
 
 -- z is the place of a node
-abbrev Place : Distance → List ℕ → ℤ → Type 0
+abbrev Place : Spacing → List ℕ → ℤ → Type 0
 Place D t z = (v : ℕ) × (v < nodes t) × (place D t v ≡ z)
 
 -- z is a place, and goes before the places of the first p positions
-pub record Extreme (Before : ℤ → ℤ → Type 0) (D : Distance) (t : List ℕ) (p : ℕ) (z : ℤ) : Type 0 where
+pub record Extreme (Before : ℤ → ℤ → Type 0) (D : Spacing) (t : List ℕ) (p : ℕ) (z : ℤ) : Type 0 where
   pub met : Place D t z
   pub bounds : (q : ℕ) → q < p → Before z (placeAt D t q)
 
-module _ {Before : ℤ → ℤ → Type 0} {D : Distance} {t : List ℕ} (accepted : tableNumber t ≡ 0) where
+module _ {Before : ℤ → ℤ → Type 0} {D : Spacing} {t : List ℕ} (accepted : tableNumber t ≡ 0) where
   -- the root stands at place 0
   pub extreme-start : Before (pos 0) (pos 0) → Extreme Before D t 1 (pos 0)
   extreme-start same =
@@ -46,7 +46,7 @@ module _ {Before : ℤ → ℤ → Type 0} {D : Distance} {t : List ℕ} (accept
       equal z w (subst (Before z) (m .2) (each-number t accepted (λ v. Before z (place D t v)) (λ q k. E .bounds q (omega arith)) (m .0) (m .1)))
       (subst (Before w) (E .met .2) (b (E .met .0) (E .met .1)))
 
-module _ {D : Distance} {t : List ℕ} (accepted : tableNumber t ≡ 0) {p : ℕ} {z : ℤ} where
+module _ {D : Spacing} {t : List ℕ} (accepted : tableNumber t ≡ 0) {p : ℕ} {z : ℤ} where
   -- of the extreme so far and the next place, the one that goes before the other
   pub least-next : {z′ : ℤ} → Extreme AtMost D t p z → p < nodes t → z′ ≡ lesser z (placeAt D t p) → Extreme AtMost D t (p + 1) z′
   least-next E h e = rw e (go (leZ z (placeAt D t p)) refl)
@@ -77,7 +77,7 @@ module _ {D : Distance} {t : List ℕ} (accepted : tableNumber t ≡ 0) {p : ℕ
   greatest-end E h = end accepted (λ x y a b. parts-eq x y (omega arith)) E h (greatest-met D t accepted) (λ v k. at-most _ _ (greatest-bounds D t accepted v k))
 
 -- the extremes are small
-module _ (D : Distance) (t : List ℕ) (accepted : tableNumber t ≡ 0) (small : (a b : ℕ) → a < nodes t → b < nodes t → D a b ≤ 1536) where
+module _ (D : Spacing) (t : List ℕ) (accepted : tableNumber t ≡ 0) (small : (a b : ℕ) → a < nodes t → b < nodes t → D .need a b ≤ 1536) (little : D .extra ≤ 1024) where
   met-small : {z : ℤ} → Place D t z → mag z < 2 ^ 31
   met-small m = subst (λ (x : ℤ). mag x < 2 ^ 31) (m .2) (omega (arith, mag-size (place D t (m .0)), small-place D t accepted 1536 small (le-refl 1536) (m .0) (m .1)))
 

@@ -8,7 +8,7 @@ use borrow.Author.Count.{below-more}
 use lib.IntN.{ℤ}
 use lib.ListN.{length, getD, set, length-set}
 use lib.Seq.{getD-set-same, getD-set-other}
-use Rattle.distance.specs.Needed.{Distance}
+use Rattle.rule.specs.Join.{Spacing}
 use Rattle.tree.specs.Numbers.{upTo}
 use Rattle.tree.specs.Table.{nodes}
 use Rattle.tree.specs.Forest.{treeOf}
@@ -24,7 +24,7 @@ use Rattle.second_walk.proofs.EntryForEach.{told-by-entries}
 abbrev pub numberAt : List ℕ → ℕ → ℕ
 numberAt t q = nodeAt (treeOf t) q
 
-abbrev pub placeAt : Distance → List ℕ → ℕ → ℤ
+abbrev pub placeAt : Spacing → List ℕ → ℕ → ℤ
 placeAt D t q = place D t (numberAt t q)
 
 abbrev pub levelAt : List ℕ → ℕ → ℕ

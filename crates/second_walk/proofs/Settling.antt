@@ -6,7 +6,7 @@ use native.Mathlib.Numerals.{add-one}
 use native.Mathlib.Omega.{arith}
 use lib.IntN.{ℤ, pos}
 use lib.ListN.{length, set}
-use Rattle.distance.specs.Needed.{Distance}
+use Rattle.rule.specs.Join.{Spacing}
 use Rattle.tree.specs.Table.{nodes}
 use Rattle.tree.specs.Levels
 use Rattle.tree.specs.WellFormed.{tableNumber}
@@ -26,7 +26,7 @@ use Rattle.second_walk.proofs.Recorded.{Recorded, recorded-start, recor
 use Rattle.second_walk.proofs.Descending.{Descending, descending-start, rest-start, seen, descending-next}
 
 -- the slices before and now, the extremes so far, and how many pairs and positions have been met
-pub record Settling (t : List ℕ) (D : Distance) (rs₀ : List ℕ) (ws₀ ps : List ℤ) (ls rs : List ℕ) (ws : List ℤ) (low high : ℤ) (pairs p : ℕ) : Type 0 where
+pub record Settling (t : List ℕ) (D : Spacing) (rs₀ : List ℕ) (ws₀ ps : List ℤ) (ls rs : List ℕ) (ws : List ℤ) (low high : ℤ) (pairs p : ℕ) : Type 0 where
   pub some : 1 ≤ p
   pub work : Descending D t ws₀ ws p
   pub places : ByNumber t (Result.place D t) (pos 0) p ps
@@ -35,12 +35,12 @@ pub record Settling (t : List ℕ) (D : Distance) (rs₀ : List ℕ) (ws₀ ps :
   pub greatest : Extreme AtLeast D t p high
   pub measured : Recorded t rs₀ p pairs rs
 
-pub settle-start : {t : List ℕ} {D : Distance} {ps : List ℤ} {ls rs : List ℕ} {ws ws′ : List ℤ} → tableNumber t ≡ 0 → ((a b : ℕ) → D a b ≤ 1536) → Lengths t ps ls rs → Ready D t ws
+pub settle-start : {t : List ℕ} {D : Spacing} {ps : List ℤ} {ls rs : List ℕ} {ws ws′ : List ℤ} → tableNumber t ≡ 0 → ((a b : ℕ) → D .need a b ≤ 1536) → D .extra ≤ 1024 → Lengths t ps ls rs → Ready D t ws
     → ws′ ≡ put ws LEVEL 0 (pos 0) → Settling t D rs ws′ (set ps 0 (pos 0)) (set ls 0 0) rs ws′ (pos 0) (pos 0) 0 1
-settle-start {t} {D} {ps} {ls} {rs} accepted small M R e =
+settle-start {t} {D} {ps} {ls} {rs} accepted small little M R e =
     record {
       some = omega arith;
-      work = descending-start accepted small R e;
+      work = descending-start accepted small little R e;
       places = by-number-start accepted ps (M .places) (sym (root-place D t accepted));
       levels = by-number-start accepted ls (M .levels) (sym (root-level t accepted));
       least = extreme-start accepted (omega arith);
@@ -48,7 +48,7 @@ settle-start {t} {D} {ps} {ls} {rs} accepted small M R e =
       measured = recorded-start t rs (M .measured);
     }
 
-module _ {t : List ℕ} {D : Distance} {rs₀ : List ℕ} {ws₀ ps : List ℤ} {ls rs : List ℕ} {ws : List ℤ} {low high : ℤ} {pairs p : ℕ}
+module _ {t : List ℕ} {D : Spacing} {rs₀ : List ℕ} {ws₀ ps : List ℤ} {ls rs : List ℕ} {ws : List ℤ} {low high : ℤ} {pairs p : ℕ}
     (S : Settling t D rs₀ ws₀ ps ls rs ws low high pairs p) where
   abbrev accepted : tableNumber t ≡ 0
   accepted = S .work .accepted
@@ -121,7 +121,7 @@ module _ {t : List ℕ} {D : Distance} {rs₀ : List ℕ} {ws₀ ps : List ℤ} 
         places = by-number-end accepted (S .places) done;
         levels = by-number-end accepted (S .levels) done;
         measured = recorded-end accepted (S .measured) (S .some) done;
-        rest = S .work .rest ∙ rest-start accepted (S .work .small) R e;
+        rest = S .work .rest ∙ rest-start accepted (S .work .small) (S .work .little) R e;
         levelCount = f ∙ add-one (levelAt t (nodes t - 1)) ∙ last-count t accepted (nodes t - 1) (omega (arith, accepted-numbers t accepted .some));
         least = least-end accepted (S .least) done;
         greatest = greatest-end accepted (S .greatest) done;

@@ -8,11 +8,11 @@ use lib.IntN.{ℤ, pos, _+ℤ_}
 use lib.Signed.{mag}
 use lib.ListN.{length, set, drop}
 use Rattle.refusal.specs.After.{overwrite}
-use Rattle.distance.specs.Needed.{Distance}
 use Rattle.tree.specs.Table.{nodes}
 use Rattle.tree.specs.Forest.{treeOf}
 use Rattle.tree.specs.Levels
 use Rattle.tree.specs.Levels.{neighbours}
+use Rattle.rule.specs.Join.{Spacing}
 use Rattle.rule.specs.Record.{flat}
 use Rattle.rule.specs.Result
 use Rattle.rule.specs.Result.{placesOf, levelsOf, leastOf, greatestOf}
@@ -22,14 +22,14 @@ use Rattle.level_order.specs.Fields.{get, put, NODE, PARENT, PLACE, LEVEL}
 -- ---- before the pass
 
 -- position p stands at its offset from its parent, one level below it
-pub record FromParent (D : Distance) (t : List ℕ) (work : List ℤ) (p : ℕ) : Type 0 where
+pub record FromParent (D : Spacing) (t : List ℕ) (work : List ℤ) (p : ℕ) : Type 0 where
   pub parent : ℕ
   pub before : parent < p
   pub named : get work PARENT p ≡ pos parent
   pub place : Result.place D t (nodeAt (treeOf t) p) ≡ Result.place D t (nodeAt (treeOf t) parent) +ℤ get work PLACE p
   pub level : Levels.level t (nodeAt (treeOf t) p) ≡ suc (Levels.level t (nodeAt (treeOf t) parent))
 
-pub record Ready (D : Distance) (t : List ℕ) (work : List ℤ) : Type 0 where
+pub record Ready (D : Spacing) (t : List ℕ) (work : List ℤ) : Type 0 where
   pub size : 16 * nodes t ≤ length work
   pub node : (p : ℕ) → p < nodes t → get work NODE p ≡ pos (nodeAt (treeOf t) p)
   pub root : get work PLACE 0 ≡ pos 0
@@ -97,7 +97,7 @@ pub record Lengths (t : List ℕ) (ps : List ℤ) (ls rs : List ℕ) : Type 0 wh
   pub measured : length rs ≡ 2 * nodes t
 
 -- what the slices hold afterwards, of which the record held rs and the working slice ws, and the four results
-pub record Settled (t : List ℕ) (D : Distance) (ps : List ℤ) (ls rs rs′ : List ℕ) (ws ws′ : List ℤ) (k : ℕ) (low high : ℤ) (many : ℕ) : Type 0 where
+pub record Settled (t : List ℕ) (D : Spacing) (ps : List ℤ) (ls rs rs′ : List ℕ) (ws ws′ : List ℤ) (k : ℕ) (low high : ℤ) (many : ℕ) : Type 0 where
   pub places : ps ≡ placesOf D t
   pub levels : ls ≡ levelsOf t
   pub measured : rs′ ≡ overwrite (flat (neighbours t)) rs

@@ -1,8 +1,9 @@
 // The second walk, from the first position to the last: places and levels by node number, the extremes, and the record.
 ghost use mathlib.Core.Path.{_≡_};
-ghost use Prim.Native.Nat.{ℕ, _*_, _<_};
+ghost use Prim.Native.Nat.{ℕ, _*_, _≤_, _<_};
 ghost use lib.IntN.{pos};
 ghost use Rattle.distance.specs.Needed.{needed};
+ghost use Rattle.rule.specs.Join.{spaced};
 ghost use Rattle.rule.specs.Result as result;
 ghost use Rattle.level_order.specs.Fields as fields;
 ghost use Rattle.level_order.specs.Numbered.{Accepted};
@@ -75,20 +76,21 @@ fn greater(x: i32, y: i32) -> i32
     if x <= y { y } else { x }
 }
 
-// The whole walk, over slices of just n, n and 2n entries. The separation and the half-widths stand in the contract alone.
+// The whole walk, over slices of just n, n and 2n entries. Separation, half-widths and extra space stand in the contract alone.
 pub fn second_walk(
     table: &[u16],
     separation: u16,
     widths: &[u16],
+    extra: u16,
     places: &mut [i32],
     levels: &mut [u16],
     measured: &mut [u16],
     work: &mut [i32],
 ) -> Settled
-    requires { ⌜ Accepted (now table) separation (now widths) ⌝ }
+    requires { ⌜ (Accepted (now table) separation (now widths)) × (extra ≤ 1024) ⌝ }
     requires { ⌜ Lengths (now table) (now places) (now levels) (now measured) ⌝ }
-    requires { ⌜ Ready (needed separation (now widths)) (now table) (now work) ⌝ }
-    ensures { λ r. ⌜ walk.Settled (now (table .entry)) (needed separation (now (widths .entry))) (now (places .exit)) (now (levels .exit)) (now (measured .entry)) (now (measured .exit)) (now (work .entry)) (now (work .exit)) (r .levels) (r .least) (r .greatest) (r .pairs) ⌝ }
+    requires { ⌜ Ready (spaced (needed separation (now widths)) extra) (now table) (now work) ⌝ }
+    ensures { λ r. ⌜ walk.Settled (now (table .entry)) (spaced (needed separation (now (widths .entry))) extra) (now (places .exit)) (now (levels .exit)) (now (measured .entry)) (now (measured .exit)) (now (work .entry)) (now (work .exit)) (r .levels) (r .least) (r .greatest) (r .pairs) ⌝ }
 {
     let n = table.len() / 2;
     places[0] = 0;

@@ -46,6 +46,7 @@ none-carried before end =
 
 -- what the pass is given
 pub record Pass (f end : ℕ) (before : List ℤ) : Type 0 where
+  pub low : 0 < f
   pub some : f < end
   pub few : end ≤ 1024
   pub room : 16 * end ≤ length before
@@ -70,7 +71,7 @@ next-carried before end q h =
     ap (gather (get before SHIFT) (get before CHANGE) end) more
     ∙ ap (λ (x : ℕ). carry (get before SHIFT x) (get before CHANGE x) (carriedTo before end (suc q))) back
 
-rate-after : {f end : ℕ} {before : List ℤ} → Bounded f end before → (m : ℕ) → m + f ≤ end → natAbs (gather (get before SHIFT) (get before CHANGE) end m .rate) ≤ 1572864 * m
+rate-after : {f end : ℕ} {before : List ℤ} → Bounded f end before → (m : ℕ) → m + f ≤ end → natAbs (gather (get before SHIFT) (get before CHANGE) end m .rate) ≤ 2094592 * m
 rate-after B zero h = omega arith
 rate-after {end = end} {before = before} B (suc m) h =
     omega (
@@ -80,7 +81,7 @@ rate-after {end = end} {before = before} B (suc m) h =
       B .changes (end - suc m) (omega arith) (omega arith),
     )
 
-pub half-small : {f end : ℕ} {before : List ℤ} → Pass f end before → half before end ≤ 786432
+pub half-small : {f end : ℕ} {before : List ℤ} → Pass f end before → half before end ≤ 1047296
 half-small {end = end} {before = before} G =
     omega (arith, natAbs-parts (get before PLACE (end - 1)), G .bounded .places (end - 1) (omega (arith, G .some)) (omega (arith, G .some)))
 
@@ -152,13 +153,13 @@ module _ {f end : ℕ} {before work : List ℤ} {sum rate : ℤ} {q : ℕ} (T : 
 
   -- ---- its numbers stay small
 
-  pub sum-small : natAbs sum ≤ 1572864
+  pub sum-small : natAbs sum ≤ 2094592
   sum-small = omega (arith, ap natAbs (I .sums), T .given .bounded .moves q (T .above) (I .high))
 
-  pub place-small : natAbs (get work PLACE q) ≤ 1572864
+  pub place-small : natAbs (get work PLACE q) ≤ 2094592
   place-small = omega (arith, ap natAbs (I .executed .left PLACE q (omega arith) (omega arith)), T .given .bounded .places q (T .above) (I .high))
 
-  pub rate-next : natAbs (rate +ℤ get before CHANGE q) ≤ 1610612736
+  pub rate-next : natAbs (rate +ℤ get before CHANGE q) ≤ 2142767616
   rate-next =
       omega (
         arith,
@@ -168,9 +169,11 @@ module _ {f end : ℕ} {before work : List ℤ} {sum rate : ℤ} {q : ℕ} (T : 
         T .given .bounded .changes q (T .above) (I .high),
         I .high,
         T .given .few,
+        T .given .low,
+        T .above,
       )
 
-  pub sum-next : natAbs (sum +ℤ get before SHIFT q) ≤ 3145728
+  pub sum-next : natAbs (sum +ℤ get before SHIFT q) ≤ 4189184
   sum-next = omega (arith, natAbs-add sum (get before SHIFT q), sum-small, T .given .bounded .shifts q (T .above) (I .high))
 
 -- the middle as the code computes it

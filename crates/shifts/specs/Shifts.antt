@@ -32,10 +32,10 @@ shared work i c s = added (raised work i c s) CHANGE i (pos (quotient (c - i) s)
 
 -- what the pass over the positions from f to end reads is small
 pub record Bounded (f end : ℕ) (work : List ℤ) : Type 0 where
-  pub places : (p : ℕ) → f ≤ p → p < end → natAbs (get work PLACE p) ≤ 1572864
-  pub shifts : (p : ℕ) → f ≤ p → p < end → natAbs (get work SHIFT p) ≤ 1572864
-  pub changes : (p : ℕ) → f ≤ p → p < end → natAbs (get work CHANGE p) ≤ 1572864
-  pub moves : (p : ℕ) → f ≤ p → p < end → natAbs (pending (get work SHIFT) (get work CHANGE) end p) ≤ 1572864
+  pub places : (p : ℕ) → f ≤ p → p < end → natAbs (get work PLACE p) ≤ 2094592
+  pub shifts : (p : ℕ) → f ≤ p → p < end → natAbs (get work SHIFT p) ≤ 2094592
+  pub changes : (p : ℕ) → f ≤ p → p < end → natAbs (get work CHANGE p) ≤ 2094592
+  pub moves : (p : ℕ) → f ≤ p → p < end → natAbs (pending (get work SHIFT) (get work CHANGE) end p) ≤ 2094592
 
 -- half the place of the last position before end, rounded down
 abbrev pub half : List ℤ → ℕ → ℕ

@@ -45,7 +45,7 @@ pub fn share(work: &mut [i32], i: usize, c: usize, s: usize)
 
 // Moves the children at the positions from f to end by what is pending, and counts their places from the middle of the row.
 pub fn execute(work: &mut [i32], f: usize, end: usize)
-    requires { ⌜ (f < end) × (end ≤ 1024) ⌝ }
+    requires { ⌜ (0 < f) × (f < end) × (end ≤ 1024) ⌝ }
     requires { ⌜ 16 * end ≤ length (now work) ⌝ }
     requires { ⌜ nonNeg (Fields.get (now work) Fields.PLACE (end - 1)) ≡ true ⌝ }
     requires { ⌜ Bounded f end (now work) ⌝ }

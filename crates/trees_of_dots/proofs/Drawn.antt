@@ -1,5 +1,6 @@
 -- The layout of a table by the operation, with half-widths 0, is that of the written rule with the separation alone. Assumes nothing.
 use mathlib.Core.Path.{_≡_, sym, ap, ap₂, _∙_}
+use mathlib.Core.Bool.{false}
 use mathlib.Core.List.{List, map}
 use Prim.Native.Nat.{ℕ, _<_}
 use native.Mathlib.Omega.{arith}
@@ -16,8 +17,8 @@ use Rattle.rule.specs.Result.{Slices, Answer, Layout, layoutNumber, placeIn, pl
 use Rattle.rule.proofs.Own.{no-widths}
 use Rattle.second_walk.proofs.EntryForEach.{length-upTo, map-upTo, told-by-entries}
 use Rattle.layout.specs.Operation.{slices}
-use Rattle.layout.proofs.Answers.{results-long, work-long, number-0}
-use Rattle.layout.proofs.Returned.{accepted, placeOf, levelOf, place-returned, level-returned}
+use Rattle.layout.proofs.Answers.{room-enough, by-widths, number-room}
+use Rattle.layout.proofs.Returned.{layout-call, accepted, placeOf, levelOf, place-returned, level-returned}
 use Rattle.plots.specs.Points.{Point, point, pointsOf, allAmong, apart, nodePoint, laidOut, tableFits}
 use Rattle.plots.specs.Dots.{pointsAt}
 use Rattle.plots.proofs.Laid.{among-fits}
@@ -29,13 +30,14 @@ pub drawn-points : (t : List ℕ) (D : ℕ) (hs : List ℕ) (s : Slices) (a : An
     → ((v : ℕ) → v < nodes t → halfWidth hs v ≡ 0) → pointsAt (nodes t) (u .levels) (u .places) ≡ laidOut D t
 unfolding laidOut place
 drawn-points t D hs s a u L ok none =
-    let read : ℕ → Point = λ v. point (pos (levelOf t D hs s a u L ok v)) (placeOf t D hs s a u L ok v) in
+    let C = layout-call L ok in
+    let read : ℕ → Point = λ v. point (pos (levelOf u v)) (placeOf u v) in
     let root = point (pos 0) (pos 0) in
     told-by-entries (nodePoint D t) root (nodes t) (map read (upTo (nodes t))) (length-map (upTo (nodes t)) read ∙ length-upTo (nodes t))
     (λ v h.
     map-upTo read root (nodes t) v h
-    ∙ ap₂ point (ap pos (level-returned t D hs s a u L ok v h))
-    (place-returned t D hs s a u L ok v h ∙ ap (λ (ls : List (List Dot)). placeIn (together ls) v) (no-widths t (accepted t D hs s a u L ok) D hs none)))
+    ∙ ap₂ point (ap pos (level-returned C v h))
+    (place-returned C v h ∙ ap (λ (ls : List (List Dot)). placeIn (together ls) v) (no-widths t (accepted C) D hs 0 none)))
 
 -- the slices of eight nodes
 abbrev pub lent : Slices
@@ -45,11 +47,9 @@ lent = slices (replicate 8 (pos 0)) (replicate 8 0) (replicate 16 0) (replicate 
 pub lent-taken : (t : List ℕ) (dots : List ℤ) (D : ℕ) → Drawable t dots D → layoutNumber t D (replicate 8 0) lent ≡ 0
 lent-taken t dots D R =
     let few = R .plot .few in
-    sym
-    (number-0 t D (replicate 8 0) lent (R .accepted) (R .plot .apart)
-    (narrow-good (replicate 8 0) (nodes t) few (λ v h. omega (arith, getD-replicate {A = ℕ} 8 v 0 0 (omega arith))))
-    (results-long t lent few few (omega arith))
-    (work-long t lent (omega arith)))
+    sym (number-room t D (replicate 8 0) lent (R .accepted)
+    (by-widths t D (replicate 8 0) (R .plot .apart) false (narrow-good (replicate 8 0) (nodes t) few (λ v h. omega (arith, getD-replicate {A = ℕ} 8 v 0 0 (omega arith))))))
+    ∙ room-enough t lent few few (omega arith) (omega arith)
 
 -- and then it is enough that every node's point is among the dots
 pub drawn-fits : (t : List ℕ) (dots : List ℤ) (D : ℕ) → Drawable t dots D → (a : Answer) (u : Slices) → Layout t D (replicate 8 0) lent a u

@@ -5,7 +5,7 @@ use lib.IntN.{pos, negsuc}
 use Rattle.distance.specs.Needed.{badSeparation}
 use Rattle.tree.specs.Forest.{forest, treeOf, tableOf}
 use Rattle.tree.specs.Levels.{level}
-use Rattle.rule.specs.Join.{evenly}
+use Rattle.rule.specs.Join.{evenly, added}
 use Rattle.rule.specs.Rule.{drawn}
 use Rattle.rule.specs.Result.{place}
 use Rattle.small_trees.specs.Sequence.{treeOfLevels}
@@ -16,7 +16,7 @@ use Rattle.trees_of_dots.specs.TreesOfDots.{fits, fittingPlaces, refusal
 
 -- 0 1 2 1 2 and 0 1 2 2 1, with neighbours one unit apart
 pub narrow : fittingPlaces 5 1 (pointsOf (pos 0 ∷ pos 0 ∷ pos 1 ∷ pos 0 ∷ pos 1 ∷ pos 1 ∷ pos 2 ∷ pos 0 ∷ pos 2 ∷ pos 1 ∷ [])) ≡ 6 ∷ 7 ∷ []
-unfolding fittingPlaces fits tableFits sameSet laidOut treeCount tableOf treeAt treeOfLevels sequenceAt sequences further forest treeOf level evenly drawn place
+unfolding fittingPlaces fits tableFits sameSet laidOut treeCount tableOf treeAt treeOfLevels sequenceAt sequences further forest treeOf level evenly added drawn place
 narrow = refl
 
 -- 0 1 1 2 2 2 1 and 0 1 2 1 2 1 2, two units apart: the only two of seven nodes
@@ -24,12 +24,12 @@ pub shared : fittingPlaces 7 2
     (pointsOf
     (pos 0 ∷ pos 0 ∷ pos 1 ∷ negsuc 1 ∷ pos 1 ∷ pos 0 ∷ pos 1 ∷ pos 2 ∷ pos 2 ∷ negsuc 1 ∷ pos 2 ∷ pos 0 ∷ pos 2 ∷ pos 2 ∷ []))
     ≡ 21 ∷ 48 ∷ []
-unfolding fittingPlaces fits tableFits sameSet laidOut treeCount tableOf treeAt treeOfLevels sequenceAt sequences further forest treeOf level evenly drawn place
+unfolding fittingPlaces fits tableFits sameSet laidOut treeCount tableOf treeAt treeOfLevels sequenceAt sequences further forest treeOf level evenly added drawn place
 shared = refl
 
 -- a child that does not stand under its parent
 pub nobody : fittingPlaces 2 5 (pointsOf (pos 0 ∷ pos 0 ∷ pos 1 ∷ pos 1 ∷ [])) ≡ []
-unfolding fittingPlaces fits tableFits sameSet laidOut treeCount tableOf treeAt treeOfLevels sequenceAt sequences further forest treeOf level evenly drawn place
+unfolding fittingPlaces fits tableFits sameSet laidOut treeCount tableOf treeAt treeOfLevels sequenceAt sequences further forest treeOf level evenly added drawn place
 nobody = refl
 
 -- 20 first, then 22, and 6 last

@@ -186,8 +186,8 @@ module _ (D : ℕ) (some : 1 ≤ D) (small : D ≤ 1024) (t : List ℕ) (e : tab
 pub laid-returned : (t : List ℕ) (D : ℕ) (hs : List ℕ) (s : Slices) (a : Answer) (u : Slices) (L : Layout t D hs s a u) (ok : a .number ≡ 0)
     → ((v : ℕ) → v < nodes t → halfWidth hs v ≡ 0) → (few : nodes t ≤ mostNodes) (dots : List ℤ) → dotsWrong (nodes t) dots ≡ false
     → SameSet (pointsAt (nodes t) (u .levels) (u .places)) (pointsOf dots) → (v : Values) → TreesOfDotsValues (nodes t) dots D v
-    → FoundAgain (nodes t) D dots (placeOf t (layout.accepted t D hs s a u L ok) few) v
+    → FoundAgain (nodes t) D dots (placeOf t (layout.accepted (layout.layout-call L ok)) few) v
 laid-returned t D hs s a u L ok none few dots right same v call =
     let T = taken t D hs s (sym (L .number) ∙ ok) in
-    found-returned D (T .some) (T .small) t (layout.accepted t D hs s a u L ok) few dots right
+    found-returned D (T .some) (T .small) t (layout.accepted (layout.layout-call L ok)) few dots right
     (subst (λ (l : List Point). SameSet l (pointsOf dots)) (drawn-points t D hs s a u L ok none) same) v call

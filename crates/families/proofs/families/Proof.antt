@@ -5,7 +5,7 @@ use Prim.Native.Nat.{ℕ, suc, _-_, _≤_}
 use native.Mathlib.Omega.{arith}
 use lib.IntN.{ℤ, pos}
 use lib.ListN.{length}
-use Rattle.distance.specs.Needed.{Distance}
+use Rattle.rule.specs.Join.{Spacing, spaced}
 use Rattle.tree.specs.Table.{nodes}
 use Rattle.tree.specs.Forest.{treeOf}
 use Rattle.tree.proofs.Linked.{Linked}
@@ -24,18 +24,18 @@ use Rattle.families.proofs.families.Statement.{statement}
 use Rattle.families.proofs.families.Tie as tie
 
 abbrev Inv-loop : tie.InvT-loop
-Inv-loop table separation widths work₀ p₀ work p = DrawnFrom table (apart table separation widths) p work₀ work
+Inv-loop table separation widths extra work₀ p₀ work p = DrawnFrom table (spaced (apart table separation widths) extra) p work₀ work
 
 abbrev μ-loop : tie.MeasureT-loop
-μ-loop table separation widths work₀ p₀ work p = p
+μ-loop table separation widths extra work₀ p₀ work p = p
 
 -- at the function's start
 module _ (s : tie.Start Inv-loop μ-loop) where
   abbrev table : List ℕ
   table = s .args .table .now
 
-  abbrev needs : Distance
-  needs = apart table (s .args .separation) (s .args .widths .now)
+  abbrev needs : Spacing
+  needs = spaced (apart table (s .args .separation) (s .args .widths .now)) (s .args .extra)
 
   abbrev before : List ℤ
   before = s .args .work .now
@@ -65,7 +65,7 @@ module _ (c : tie.In-loop Inv-loop μ-loop) where
   abbrev t : List ℕ
   t = table start
 
-  abbrev D : Distance
+  abbrev D : Spacing
   D = needs start
 
   abbrev p : ℕ

@@ -6,10 +6,11 @@ use native.Mathlib.Omega.{arith}
 use lib.IntN.{natAbs}
 use mir.Syntax.{w32}
 use mir.Val.{toZ, ofZ}
-use Rattle.distance.specs.Needed.{Distance, needed}
+use Rattle.distance.specs.Needed.{needed}
 use Rattle.tree.specs.Table.{nodes}
 use Rattle.tree.specs.WellFormed.{tableNumber}
 use Rattle.tree.proofs.Stands.{accepted-numbers}
+use Rattle.rule.specs.Join.{Spacing, spaced}
 use Rattle.level_order.specs.Numbered.{Accepted}
 use Rattle.level_order.proofs.Fielded.{accepted-most}
 use Rattle.level_order.proofs.Signed32.{told}
@@ -22,11 +23,11 @@ use Rattle.second_walk.proofs.second_walk.Statement.{statement}
 use Rattle.second_walk.proofs.second_walk.Tie as tie
 
 abbrev Inv-loop : tie.InvT-loop
-Inv-loop table separation widths places₀ levels₀ measured₀ work₀ n least₀ greatest₀ pairs₀ p₀ places levels measured work least greatest pairs p =
-    Settling table (needed separation widths) measured₀ work₀ places levels measured work (toZ w32 least) (toZ w32 greatest) pairs p
+Inv-loop table separation widths extra places₀ levels₀ measured₀ work₀ n least₀ greatest₀ pairs₀ p₀ places levels measured work least greatest pairs p =
+    Settling table (spaced (needed separation widths) extra) measured₀ work₀ places levels measured work (toZ w32 least) (toZ w32 greatest) pairs p
 
 abbrev μ-loop : tie.MeasureT-loop
-μ-loop table separation widths places₀ levels₀ measured₀ work₀ n least₀ greatest₀ pairs₀ p₀ places levels measured work least greatest pairs p = n - p
+μ-loop table separation widths extra places₀ levels₀ measured₀ work₀ n least₀ greatest₀ pairs₀ p₀ places levels measured work least greatest pairs p = n - p
 
 -- ---- what is given
 
@@ -34,16 +35,16 @@ module _ (s : tie.Start Inv-loop μ-loop) where
   abbrev t : List ℕ
   t = s .args .table .now
 
-  abbrev D : Distance
-  D = needed (s .args .separation) (s .args .widths .now)
+  abbrev D : Spacing
+  D = spaced (needed (s .args .separation) (s .args .widths .now)) (s .args .extra)
 
   abbrev given : Accepted t (s .args .separation) (s .args .widths .now)
-  given = s .pre .0
+  given = s .pre .0 .0
 
   abbrev accepted : tableNumber t ≡ 0
   accepted = given .accepted
 
-  small : (a b : ℕ) → D a b ≤ 1536
+  small : (a b : ℕ) → D .need a b ≤ 1536
   small = accepted-most given
 
   abbrev lengths : Lengths t (s .args .places .now) (s .args .levels .now) (s .args .measured .now)
@@ -69,7 +70,7 @@ put-requires c κs = omega (arith, ready (c .before .before .before .before .bef
 loop-holds : tie.Need-loop-holds Inv-loop μ-loop
 loop-holds c =
     let s = c .before .before .before .before .before .before .before in
-    settle-start (accepted s) (small s) (lengths s) (ready s) (c .before .put .ensures)
+    settle-start (accepted s) (small s) (s .pre .0 .1) (lengths s) (ready s) (c .before .put .ensures)
 
 module _ (a : tie.At-loop Inv-loop μ-loop) where
   abbrev start : tie.Start Inv-loop μ-loop
@@ -165,11 +166,11 @@ module _ (c : tie.After-get2 Inv-loop μ-loop) where
 cast-last : tie.Need-cast-last Inv-loop μ-loop
 cast-last c = level-fits (last c) (c .get2 .ensures)
 
-add-t41 : tie.Need-add-t41 Inv-loop μ-loop
-add-t41 c = omega (arith, deepest-number c, last c .near)
+add-t42 : tie.Need-add-t42 Inv-loop μ-loop
+add-t42 c = omega (arith, deepest-number c, last c .near)
 
-cast-t42 : tie.Need-cast-t42 Inv-loop μ-loop
-cast-t42 c = omega (arith, settle-few (S (end c)))
+cast-t43 : tie.Need-cast-t43 Inv-loop μ-loop
+cast-t43 c = omega (arith, settle-few (S (end c)))
 
 same-length : tie.Need-same-length Inv-loop μ-loop
 same-length c = S (end c) .places .size ∙ sym (lengths (start (end c)) .places)
@@ -209,8 +210,8 @@ second-walk-spec =
     sub-get
     get-requires-2
     cast-last
-    add-t41
-    cast-t42
+    add-t42
+    cast-t43
     same-length
     same-length-2
     same-length-3

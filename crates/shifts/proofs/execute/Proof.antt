@@ -33,7 +33,7 @@ module _ (s : tie.Start Inv-loop μ-loop) where
   end = s .args .end
 
   given : Pass (s .args .f) end before
-  given = record { some = s .pre .0 .0; few = s .pre .0 .1; room = s .pre .1 .0; bounded = s .pre .1 .1 .1 }
+  given = record { low = s .pre .0 .0; some = s .pre .0 .1; few = s .pre .0 .2; room = s .pre .1 .0; bounded = s .pre .1 .1 .1 }
 
 sub-get : tie.Need-sub-get Inv-loop μ-loop
 sub-get c = omega (arith, given (c .before) .some)

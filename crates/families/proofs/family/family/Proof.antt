@@ -10,7 +10,7 @@ use lib.ListN.{length}
 use lib.Signed.{nonNeg}
 use mir.Syntax.{w32}
 use mir.ValLaws.{toZ-ofZ}
-use Rattle.distance.specs.Needed.{Distance}
+use Rattle.rule.specs.Join.{Spacing, spaced}
 use Rattle.tree.specs.Table.{nodes}
 use Rattle.tree.specs.Forest.{treeOf}
 use Rattle.tree.proofs.Followed.{accepted-linked}
@@ -22,7 +22,7 @@ use Rattle.families.specs.Joining.{Given}
 use Rattle.families.specs.Families.{Ready, Begun, AllJoined}
 use Rattle.level_order.proofs.Cells.{put-length}
 use Rattle.families.proofs.Children.{first-reads, count-reads, first-value, past-value}
-use Rattle.families.proofs.FamilyStart.{family-begun, f-inside, fits}
+use Rattle.families.proofs.FamilyStart.{family-begun, later, f-inside, fits}
 use Rattle.families.proofs.FamilyEnd.{joined-few, joined-room, joined-last, joined-bounded, family-drawn}
 use Rattle.families.proofs.family.family.Statement.{statement}
 use Rattle.families.proofs.family.family.Tie as tie
@@ -32,8 +32,8 @@ module _ (s : tie.Start) where
   abbrev table : List ℕ
   table = s .args .table .now
 
-  abbrev D : Distance
-  D = apart table (s .args .separation) (s .args .widths .now)
+  abbrev D : Spacing
+  D = spaced (apart table (s .args .separation) (s .args .widths .now)) (s .args .extra)
 
   abbrev before : List ℤ
   before = s .args .work .now
@@ -121,7 +121,7 @@ module _ (c : tie.After-others) where
   s₁ = s (ends begin)
 
   abbrev mid : List ℤ
-  mid = c .others .last .1 .1 .1 .0
+  mid = c .others .last .1 .1 .1 .1 .0
 
   joined : AllJoined (table s₁) (D s₁) (f s₁) (end s₁) (begun s₁) mid
   joined =
@@ -131,12 +131,12 @@ module _ (c : tie.After-others) where
 
   -- what the pass requires
   abbrev Asked : ℕ → ℕ → Type 0
-  Asked x y = ((x < y) × (y ≤ 1024)) × ((16 * y ≤ length mid) × ((nonNeg (get mid PLACE (y - 1)) ≡ true) × Bounded x y mid))
+  Asked x y = ((0 < x) × (x < y) × (y ≤ 1024)) × ((16 * y ≤ length mid) × ((nonNeg (get mid PLACE (y - 1)) ≡ true) × Bounded x y mid))
 
   asked : Asked (ends begin .before .before .position .result) (ends begin .past .result)
   asked =
       subst₂ Asked (sym (f-read (ends begin))) (sym (end-read (ends begin))) (
-        (ready s₁ .some, joined-few (given s₁) (ready s₁) mid joined),
+        (omega (arith, later (given s₁) (ready s₁)), ready s₁ .some, joined-few (given s₁) (ready s₁) mid joined),
         (
           joined-room (given s₁) (ready s₁) mid joined,
           (

@@ -4,7 +4,7 @@ use mathlib.Core.List.{List}
 use Prim.Native.Nat.{ℕ, suc, _+_, _-_, _≤_, _<_}
 use native.Mathlib.Omega.{arith}
 use lib.IntN.{ℤ}
-use Rattle.distance.specs.Needed.{Distance}
+use Rattle.rule.specs.Join.{Spacing, spaced}
 use Rattle.tree.specs.Table.{nodes}
 use Rattle.tree.specs.Forest.{treeOf}
 use Rattle.tree.proofs.Followed.{accepted-linked}
@@ -19,22 +19,22 @@ use Rattle.families.proofs.family.others.Statement.{statement}
 use Rattle.families.proofs.family.others.Tie as tie
 
 -- the children before c are joined
-abbrev SoFar : List ℕ → Distance → ℕ → ℕ → ℕ → ℕ → List ℤ → List ℤ → Type 0
+abbrev SoFar : List ℕ → Spacing → ℕ → ℕ → ℕ → ℕ → List ℤ → List ℤ → Type 0
 SoFar t D f end default c before work = Rowed t D f c end default work × Through t f c before work
 
 abbrev Inv-loop : tie.InvT-loop
-Inv-loop table separation widths work₀ f end default₀ c₀ work default c = SoFar table (apart table separation widths) f end default c work₀ work
+Inv-loop table separation widths extra work₀ f end default₀ c₀ work default c = SoFar table (spaced (apart table separation widths) extra) f end default c work₀ work
 
 abbrev μ-loop : tie.MeasureT-loop
-μ-loop table separation widths work₀ f end default₀ c₀ work default c = end - c
+μ-loop table separation widths extra work₀ f end default₀ c₀ work default c = end - c
 
 -- at the function's start
 module _ (s : tie.Start Inv-loop μ-loop) where
   abbrev table : List ℕ
   table = s .args .table .now
 
-  abbrev D : Distance
-  D = apart table (s .args .separation) (s .args .widths .now)
+  abbrev D : Spacing
+  D = spaced (apart table (s .args .separation) (s .args .widths .now)) (s .args .extra)
 
   abbrev before : List ℤ
   before = s .args .work .now
@@ -119,7 +119,7 @@ loop-again : tie.Need-loop-again Inv-loop μ-loop
 loop-again w =
     let q = turn w in
     let s = start q in
-    let after = w .before .join .last .1 .1 .1 .0 in
+    let after = w .before .join .last .1 .1 .1 .1 .0 in
     let e : suc (c q) ≡ c q + 1 = omega arith in
     subst (λ (k : ℕ). SoFar (table s) (D s) (f s) (end s) (w .before .join .result) k (before s) after) e (
       w .before .join .ensures .rowed,
