@@ -41,6 +41,8 @@
  *   21  the list of the trees of so many nodes has no such place
  *   22  the slice of dots has other than two entries for each node, a level is not in 0 to 7, or
  *       the dots do not strictly rise by level and then place
+ *   23  a node has three or more children
+ *   24  the extra space is above 1024
  *
  * A function tries its conditions in the order in which it names them.
  */
@@ -80,6 +82,24 @@ uint16_t hiwenoka_layout(const uint16_t *table, size_t table_len, uint16_t separ
                          int32_t *work, size_t work_len,
                          uint16_t *nodes, uint16_t *level_count,
                          int32_t *least, int32_t *greatest, uint16_t *pairs);
+
+/*
+ * Lays a tree out for a sheet that is set with TreeTeX: 0 to 5, 14; 23 if a node has three or more
+ * children; 6; 17; 24 if extra is above 1024; then 7 and 8. As hiwenoka_layout in every result and
+ * every slice, but for the places: a node with two children is significant if their subtrees were
+ * too close on a level below the children's own; then the second child, and all that is below it,
+ * stands extra units further right, and the parent in the middle of the two as they then stand.
+ * With extra 0, and no node with three children, it gives what hiwenoka_layout gives.
+ */
+uint16_t hiwenoka_layout_treetex(const uint16_t *table, size_t table_len, uint16_t separation,
+                                 const uint16_t *half_widths, size_t half_widths_len,
+                                 uint16_t extra,
+                                 int32_t *places, size_t places_len,
+                                 uint16_t *levels, size_t levels_len,
+                                 uint16_t *record, size_t record_len,
+                                 int32_t *work, size_t work_len,
+                                 uint16_t *nodes, uint16_t *level_count,
+                                 int32_t *least, int32_t *greatest, uint16_t *pairs);
 
 /*
  * Reverses the children of every node, numbers kept: 0 to 5, 14, or 7 if out has fewer than 2n
@@ -152,13 +172,13 @@ size_t hiwenoka_list_sheet(const uint8_t *file, size_t file_len, uint8_t *out, s
  * Where a view of the studio screen shows a node: 0, or 18, 19. The view has its middle at across
  * and down, in units of the sheet: the root stands at 0 across and 0 down, each level 64 units under
  * the one above. zoom says how many times as large a unit is drawn. level is the node's level and
- * place its place, as hiwenoka_layout gives them; no place that it gives is refused. The distances
- * from the middle are (place - across) * zoom and (64 * level - down) * zoom, without any rounding
- * error: eight times either is a whole number. Where they are at most 960 across and 540 down,
- * either way and edges included, writes 1 to on and the distances to x and y. Otherwise, and after
- * a refusal, writes 0, 0.0 and 0.0. Every double is taken: a NaN and the infinities are no whole
- * numbers and no zooms, and -0.0 is the whole number 0. Floats are computed with as by default:
- * rounded to nearest, and subnormal ones kept.
+ * place its place, as hiwenoka_layout or hiwenoka_layout_treetex gives them; no place that these
+ * give is refused. The distances from the middle are (place - across) * zoom and
+ * (64 * level - down) * zoom, without any rounding error: eight times either is a whole number.
+ * Where they are at most 960 across and 540 down, either way and edges included, writes 1 to on and
+ * the distances to x and y. Otherwise, and after a refusal, writes 0, 0.0 and 0.0. Every double is
+ * taken: a NaN and the infinities are no whole numbers and no zooms, and -0.0 is the whole number 0.
+ * Floats are computed with as by default: rounded to nearest, and subnormal ones kept.
  */
 uint16_t hiwenoka_on_screen(double across, double down, double zoom,
                             uint16_t level, int32_t place,

@@ -10,6 +10,7 @@ ghost use Rattle.screen.specs.Screen.{OnScreenValues};
 ghost use Rattle.render.specs.Text.{SheetListed};
 ghost use Rattle.small_trees.specs.SmallTrees.{SmallTree};
 ghost use Rattle.trees_of_dots.specs.TreesOfDots.{TreesOfDotsValues};
+ghost use Rattle.treetex.specs.TreeTeX.{TreeTeX};
 
 #[no_mangle]
 pub extern "C" fn hiwenoka_check_table(table: &[u16], nodes: &mut u16) -> u16
@@ -46,6 +47,44 @@ pub extern "C" fn hiwenoka_layout(
     *greatest = rightmost;
     *pairs = drawn.pairs;
     drawn.number
+}
+
+#[no_mangle]
+pub extern "C" fn hiwenoka_layout_treetex(
+    table: &[u16],
+    separation: u16,
+    widths: &[u16],
+    extra: u16,
+    places: &mut [i32],
+    levels: &mut [u16],
+    measured: &mut [u16],
+    work: &mut [i32],
+    nodes: &mut u16,
+    level_count: &mut u16,
+    least: &mut i32,
+    greatest: &mut i32,
+    pairs: &mut u16,
+) -> u16
+    ensures { λ r. ⌜ TreeTeX (now (table .entry)) separation (now (widths .entry)) extra (slices (now (places .entry)) (now (levels .entry)) (now (measured .entry)) (now (work .entry))) (answer r (now (nodes .exit)) (now («level_count» .exit)) (now (least .exit)) (now (greatest .exit)) (now (pairs .exit))) (slices (now (places .exit)) (now (levels .exit)) (now (measured .exit)) (now (work .exit))) ⌝ }
+{
+    let laid = treetex::layout_treetex(
+        table,
+        separation,
+        widths,
+        extra,
+        places,
+        levels,
+        measured,
+        work,
+    );
+    *nodes = laid.nodes;
+    *level_count = laid.levels;
+    let first = laid.least;
+    *least = first;
+    let last = laid.greatest;
+    *greatest = last;
+    *pairs = laid.pairs;
+    laid.number
 }
 
 #[no_mangle]
