@@ -29,7 +29,8 @@ int32_t needed(int32_t separation, const uint16_t *half_widths, uint16_t left, u
 static int32_t distance;
 static const uint16_t *width_of;
 
-static size_t conflicts, widest, remainder;
+static int32_t extra_space;
+static size_t conflicts, widest, remainder, significant;
 
 /* By position. */
 static uint16_t node_at[MOST_NODES];
@@ -52,11 +53,12 @@ static void move_right(size_t root, int32_t distance)
     }
 }
 
-/* Steps 2 to 4 for child j. right_contour has the last position of each level of those joined, down
-   to the level `joined`. */
+/* Steps 2 to 4 for child j, and then the extra space. right_contour has the last position of each
+   level of those joined, down to the level `joined`. */
 static void join(size_t j, const size_t *right_contour, size_t joined)
 {
     size_t left_contour[MOST_NODES], root = family[j], deepest = level[root];
+    int met_below = 0;
     for (size_t position = end[root]; position-- > root;) {
         left_contour[level[position]] = position;
         deepest = level[position] > deepest ? level[position] : deepest;
@@ -73,6 +75,7 @@ static void join(size_t j, const size_t *right_contour, size_t joined)
             }
             int32_t k = (int32_t)(j - i), q = s / k, r = s - k * q;
             conflicts++;
+            met_below |= walked > level[root];
             widest = j - i > widest ? j - i : widest;
             remainder = (size_t)r > remainder ? (size_t)r : remainder;
             move_right(root, s);
@@ -81,6 +84,10 @@ static void join(size_t j, const size_t *right_contour, size_t joined)
                 move_right(family[i + (size_t)t], t * q + odd_units);
             }
         }
+    }
+    if (met_below) {
+        significant++;
+        move_right(root, extra_space);
     }
 }
 
@@ -109,13 +116,14 @@ static void draw_family(size_t parent)
     }
 }
 
-void draw(const uint16_t *table, size_t nodes, int32_t separation, const uint16_t *half_widths,
-          struct drawing *drawing)
+void draw(const uint16_t *table, size_t nodes, int32_t separation, int32_t extra,
+          const uint16_t *half_widths, struct drawing *drawing)
 {
     size_t at[MOST_NODES];
     uint16_t right_of[MOST_NODES]; /* by node: the right neighbour, or NONE */
-    conflicts = widest = remainder = 0;
+    conflicts = widest = remainder = significant = 0;
     distance = separation;
+    extra_space = extra;
     width_of = half_widths;
     walk_levels(table, nodes, &drawing->levels);
     memset(right_of, 0xff, sizeof right_of);
@@ -140,6 +148,7 @@ void draw(const uint16_t *table, size_t nodes, int32_t separation, const uint16_
     drawing->conflicts = conflicts;
     drawing->widest = widest;
     drawing->remainder = remainder;
+    drawing->significant = significant;
     /* Step 6. */
     move_right(0, -place[0]);
     drawing->least = drawing->greatest = 0;

@@ -9,7 +9,7 @@ void draw_dots(const uint16_t *table, size_t nodes, int32_t separation, int32_t 
 {
     static const uint16_t half_widths[MOST_SMALL];
     static struct drawing drawing;
-    draw(table, nodes, separation, half_widths, &drawing);
+    draw(table, nodes, separation, 0, half_widths, &drawing);
     for (size_t node = 0; node < nodes; node++) {
         dots[2 * node] = drawing.levels.of[node];
         dots[2 * node + 1] = drawing.place[node];

@@ -43,14 +43,16 @@ struct drawing {
     int32_t least, greatest;
     int32_t place[MOST_NODES];           /* by node number */
     size_t conflicts, widest, remainder; /* how many, and the greatest k and r of one */
+    size_t significant;                  /* how many joins met a conflict below the children */
 };
 
 /* The distance that two neighbours need. */
 int32_t needed(int32_t separation, const uint16_t *half_widths, uint16_t left, uint16_t right);
 
-/* Where each node of a well-formed table stands: steps 1 to 6. */
-void draw(const uint16_t *table, size_t nodes, int32_t separation, const uint16_t *half_widths,
-          struct drawing *drawing);
+/* Where each node of a well-formed table stands: steps 1 to 6. The extra space, which the plain
+   layout does not have, is added to a child after a walk that met a conflict below the children. */
+void draw(const uint16_t *table, size_t nodes, int32_t separation, int32_t extra,
+          const uint16_t *half_widths, struct drawing *drawing);
 
 struct judged {
     unsigned number; /* the first of 18 and 19 that holds, or 0 */

@@ -4,7 +4,7 @@
  *
  *     byte 0         the operation, modulo 8; 8 more for PLAIN; 16 more for a view, whatever the
  *                    operation; 32 more for a small tree, whatever the others; 64 more for dots,
- *                    whatever the others
+ *                    whatever the others; 128 more for a layout for TreeTeX, whatever the others
  *     byte 1         what is done to the rest, see the bits below
  *     bytes 2, 3     the separation, low byte first, as are all words
  *     bytes 4 to 8   for each slice besides the table, file, text or dots, how many entries more
@@ -15,7 +15,8 @@
  *                    byte for each node after the root, whose low half says how far it hangs above
  *                    the node before it; or a view's three floats, the level and the place; or a
  *                    small tree's count of nodes and its place, in words; or a count of nodes, in a
- *                    word, and the entries of dots
+ *                    word, and the entries of dots; for TreeTeX, the extra space, in a word, and
+ *                    then a table
  *
  * The high half of the rest's byte r says how great the half-width of node r is. With TREE, the
  * lowest word of each of a view's centres says how far the node is from the middle, signed, and the
@@ -41,7 +42,8 @@ enum {
     TURNED = 2,       /* the tree's nodes but the root are numbered from the last */
     DAMAGED = 4,      /* an entry, a word of the file or of a float, or a byte of the text is
                          replaced */
-    CLOSED = 8,       /* then both sums of every block are made right, or dots put in order */
+    CLOSED = 8,       /* then both sums of every block are made right, or dots put in order; and no
+                         node of a tree for TreeTeX gets a third child */
     AFTER_GUARD = 16, /* the slices start after a guarded page, and do not end at one */
     CUT = 32,         /* before any damage, a part of the tree is cut off as a stray */
     RING = 64,        /* with CUT: parts of it are joined to rings instead */
@@ -53,7 +55,8 @@ enum { HEAD = 14, MOST_ENTRIES = (MOST_FILE + BLOCK_BYTES) / 2 };
 
 struct input {
     unsigned bits;
-    uint16_t separation;
+    int treetex;
+    uint16_t separation, extra;
     int8_t slack[5];
     uint8_t widest;
     uint16_t index, word;
@@ -61,10 +64,11 @@ struct input {
     size_t rest_len;
 };
 
-/* How large a drawing is and what conflicts it has, for the fuzzer to keep what is new in either, as
-   small trees take every branch already; and how many trees of how many nodes fit dots. */
+/* How large a drawing is, what conflicts it has and, for TreeTeX, how many nodes are significant, for
+   the fuzzer to keep what is new in any, as small trees take every branch already; and how many trees
+   of how many nodes fit dots. */
 #define COUNTERS __attribute__((section("__libfuzzer_extra_counters"))) static uint8_t
-COUNTERS drawn[3][12][12];
+COUNTERS drawn[4][12][12];
 COUNTERS fitted[MOST_SMALL + 1][6];
 
 /* The count of binary digits. */
@@ -105,13 +109,16 @@ static size_t tree_of(const struct input *input, uint16_t *table)
 {
     static const uint8_t climbs[16] = {0, 0, 0, 0, 0, 0, 0, 1, 1, 1, 1, 2, 2, 3, 6, 255};
     uint16_t parent[MOST_NODES + 1] = {0}, last[MOST_NODES + 1];
-    size_t nodes = 1 + at_most(input->rest_len, MOST_NODES);
+    size_t nodes = 1 + at_most(input->rest_len, MOST_NODES), children[MOST_NODES + 1] = {0};
+    size_t most = input->treetex && (input->bits & CLOSED) ? 2 : nodes;
     memset(table, 0xff, 4 * nodes);
     for (size_t node = 1; node < nodes; node++) {
         size_t above = node - 1;
         for (unsigned steps = climbs[input->rest[node - 1] % 16]; steps > 0 && above > 0; steps--) {
             above = parent[above];
         }
+        above = children[above] < most ? above : node - 1;
+        children[above]++;
         int turned = (input->bits & TURNED) != 0;
         uint16_t number = (uint16_t)(turned ? nodes - node : node);
         size_t under = turned && above > 0 ? nodes - above : above;
@@ -292,14 +299,23 @@ static void layout(const struct input *input, const uint16_t *entries, size_t le
     struct lent record = lend_output(2 * record_len), work = lend_output(4 * work_len);
     struct lent nodes = lend_output(2), level_count = lend_output(2), pairs = lend_output(2);
     struct lent least = lend_output(4), greatest = lend_output(4);
-    unsigned number = hiwenoka_layout(table.start, len, input->separation, widths.start, widths_len,
-                                      places.start, places_len, levels.start, levels_len,
-                                      record.start, record_len, work.start, work_len, nodes.start,
-                                      level_count.start, least.start, greatest.start, pairs.start);
+    unsigned number
+        = input->treetex
+              ? hiwenoka_layout_treetex(table.start, len, input->separation, widths.start,
+                                        widths_len, input->extra, places.start, places_len,
+                                        levels.start, levels_len, record.start, record_len,
+                                        work.start, work_len, nodes.start, level_count.start,
+                                        least.start, greatest.start, pairs.start)
+              : hiwenoka_layout(table.start, len, input->separation, widths.start, widths_len,
+                                places.start, places_len, levels.start, levels_len, record.start,
+                                record_len, work.start, work_len, nodes.start, level_count.start,
+                                least.start, greatest.start, pairs.start);
     unsigned wanted = table_number(entries, len);
     wanted = wanted != 0                                                             ? wanted
+             : input->treetex && most_children(entries, n) > 2                       ? 23
              : input->separation < 1 || input->separation > 1024                     ? 6
              : half_widths_refused((struct half_widths){half_widths, widths_len}, n) ? 17
+             : input->extra > 1024                                                   ? 24
              : places_len < n || levels_len < n || record_len < 2 * n                ? 7
              : work_len < 16 * n                                                     ? 8
                                                                                      : 0;
@@ -310,10 +326,13 @@ static void layout(const struct input *input, const uint16_t *entries, size_t le
         drawing.levels.count = drawing.levels.pairs = 0;
         drawing.least = drawing.greatest = 0;
     } else {
-        draw(entries, n, input->separation, half_widths, &drawing);
+        draw(entries, n, input->separation, input->extra, half_widths, &drawing);
         drawn[0][digits(n)][digits(drawing.levels.count)] = 1;
         drawn[1][digits(drawing.conflicts)][digits(drawing.widest)] = 1;
         drawn[2][digits(drawing.widest)][digits(drawing.remainder)] = 1;
+        if (input->treetex) {
+            drawn[3][digits(drawing.significant)][digits(input->extra)] = 1;
+        }
         expect_promises(entries, places.start, n, input->separation, half_widths, &drawing.levels);
     }
     expect(memcmp(places.start, drawing.place, 4 * n) == 0, "the places are those of the rule");
@@ -328,6 +347,19 @@ static void layout(const struct input *input, const uint16_t *entries, size_t le
     expect_word(&pairs, drawing.levels.pairs);
     expect(*(int32_t *)least.start == drawing.least, "the least place");
     expect(*(int32_t *)greatest.start == drawing.greatest, "the greatest place");
+}
+
+/* The rest starts with the extra space. */
+static void layout_treetex(struct input input)
+{
+    static uint16_t table[MOST_ENTRIES];
+    input.treetex = 1;
+    if (input.rest_len >= 2) {
+        input.extra = get_word(input.rest, 0, 0);
+        input.rest += 2;
+        input.rest_len -= 2;
+    }
+    layout(&input, table, table_of(&input, table));
 }
 
 static void write_sheet(const struct input *input, const uint16_t *entries, size_t len)
@@ -413,7 +445,7 @@ static int print_plainly(const uint8_t *file, size_t bytes, char *text)
         return sprintf(text, "refused %u\n", number);
     }
     uint16_t separation = get_word(file, 0, 3);
-    draw(table, nodes, separation, half_widths, &drawing);
+    draw(table, nodes, separation, 0, half_widths, &drawing);
     int len = sprintf(text, "sheet %zu %zu %d %d %d\n", nodes, drawing.levels.count, separation,
                       drawing.least, drawing.greatest);
     for (size_t node = 0; node < nodes; node++) {
@@ -646,7 +678,9 @@ int LLVMFuzzerTestOneInput(const uint8_t *data, size_t size)
        alone. */
     seed_random(input.separation + 65536 * (uint64_t)size);
     take_back(input.bits & AFTER_GUARD ? AT_START : AT_END);
-    if (data[0] / 64 % 2 == 1) {
+    if (data[0] / 128 == 1) {
+        layout_treetex(input);
+    } else if (data[0] / 64 % 2 == 1) {
         trees_of_dots(&input);
     } else if (data[0] / 32 % 2 == 1) {
         small_tree(&input);

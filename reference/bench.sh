@@ -1,15 +1,15 @@
 #!/usr/bin/env bash
-# Counts instructions by callgrind: a node for the table operations, for the layout and for the
-# published pointer method (its baseline, which does not check the table), a byte for reading and
-# for writing a sheet file (a write checks the table too) and for reading a Newick text, a call for
-# judging a node on the screen, for writing a small tree and for finding the trees of dots. Only the
-# calls themselves count. The part `time` takes the time of a layout beside the pointer method's and,
-# where Debian's node-d3-hierarchy is installed, that of d3's tree. The part `listing` does both for
-# the whole way from a sheet's bytes to its listing; it needs the program `listing` too, from
-# ../target/bin or the folder that HIWENOKA_BIN_DIR names.
+# Counts instructions by callgrind: a node for the table operations, for the layout, plain and for
+# TreeTeX, and for the published pointer method (its baseline, which does not check the table), a byte
+# for reading and for writing a sheet file (a write checks the table too) and for reading a Newick
+# text, a call for judging a node on the screen, for writing a small tree and for finding the trees of
+# dots. Only the calls themselves count. The part `time` takes the time of a layout beside the pointer
+# method's and, where Debian's node-d3-hierarchy is installed, that of d3's tree. The part `listing`
+# does both for the whole way from a sheet's bytes to its listing; it needs the program `listing` too,
+# from ../target/bin or the folder that HIWENOKA_BIN_DIR names.
 #
-# Usage: bench.sh [table] [sheet] [newick] [screen] [small_trees] [trees_of_dots] [layout] [time]
-# [listing]; all nine if none is named.
+# Usage: bench.sh [table] [sheet] [newick] [screen] [small_trees] [trees_of_dots] [layout] [treetex]
+# [time] [listing]; all ten if none is named.
 set -euo pipefail
 cd "$(dirname "$0")"
 
@@ -68,9 +68,9 @@ split_call() {
     callgrind_annotate --threshold=100 "$counts/call.$call" | awk -v shape="$1" '
         { count = $1; gsub(",", "", count) }
         / PROGRAM TOTALS/ { total = count }
-        /:sheet::read_sheet / { part["reading"] = count }
+        /:(sheet::read_sheet|blocks::check::sums_of) / { part["reading"] += count }
         /:tree::judge::judge / { part["table check"] = count }
-        /:layout::layout / { part["layout"] = count }
+        /:layout::(layout|draw) / { part["layout"] += count }
         /:hiwenoka_list_sheet / { part["text"] = count }
         /:__memset_[^ ]* / { part["clearing"] += count }
         END {
@@ -170,7 +170,7 @@ build() {
 }
 
 if [ $# -eq 0 ]; then
-    set -- table sheet newick screen small_trees trees_of_dots layout time listing
+    set -- table sheet newick screen small_trees trees_of_dots layout treetex time listing
 fi
 for part in "$@"; do
     case "$part" in
@@ -238,6 +238,14 @@ for part in "$@"; do
             measure bench_pointer pointer_record record
             measure bench_pointer pointer_record wide
         } | report "Published pointer method without and with half-widths: instructions a node, by count of nodes"
+        ;;
+    treetex)
+        build bench_treetex
+        {
+            measure bench_treetex hiwenoka_layout plain
+            measure bench_treetex hiwenoka_layout_treetex extra-0
+            measure bench_treetex hiwenoka_layout_treetex extra-7
+        } | report "Plain layout of trees with at most two children a node, and for TreeTeX with E = 0 and 7: instructions a node, by count of nodes"
         ;;
     time)
         build time_layout

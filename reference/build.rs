@@ -28,6 +28,7 @@ fn main() {
     println!("cargo:rustc-link-arg-bin=bench_small_trees={archive}");
     println!("cargo:rustc-link-arg-bin=bench_trees_of_dots={archive}");
     println!("cargo:rustc-link-arg-bin=bench_layout={archive}");
+    println!("cargo:rustc-link-arg-bin=bench_treetex={archive}");
     println!("cargo:rustc-link-arg-bin=time_layout={archive}");
     println!("cargo:rustc-link-arg-bin=bench_listing={archive}");
 }

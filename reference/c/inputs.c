@@ -28,9 +28,10 @@ static size_t parent_of(size_t node, size_t shape)
     }
 }
 
-void make_tree(uint16_t *table, size_t nodes)
+void make_tree(uint16_t *table, size_t nodes, size_t most)
 {
     uint16_t numbers[MOST_NODES + 1], last[MOST_NODES + 1];
+    size_t children[MOST_NODES + 1] = {0};
     size_t shape = below(SHAPES), first_in = below(3);
     for (size_t node = 0; node < nodes; node++) {
         size_t other = node == 0 ? 0 : 1 + below(node);
@@ -39,7 +40,10 @@ void make_tree(uint16_t *table, size_t nodes)
         table[2 * node] = table[2 * node + 1] = NONE;
     }
     for (size_t node = 1; node < nodes; node++) {
-        uint16_t parent = numbers[parent_of(node, shape)], child = numbers[node];
+        size_t above = parent_of(node, shape);
+        above = children[above] < most ? above : node - 1;
+        children[above]++;
+        uint16_t parent = numbers[above], child = numbers[node];
         if (table[2 * parent] == NONE) {
             table[2 * parent] = last[parent] = child;
         } else if (first_in > below(2)) {
@@ -50,6 +54,19 @@ void make_tree(uint16_t *table, size_t nodes)
             last[parent] = child;
         }
     }
+}
+
+size_t most_children(const uint16_t *table, size_t nodes)
+{
+    size_t most = 0;
+    for (size_t node = 0; node < nodes; node++) {
+        size_t count = 0;
+        for (uint16_t child = table[2 * node]; child != NONE; child = table[2 * child + 1]) {
+            count++;
+        }
+        most = count > most ? count : most;
+    }
+    return most;
 }
 
 /* An entry other than node 0's next sibling that names a node, or that names none. */

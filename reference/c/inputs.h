@@ -12,8 +12,12 @@ enum { ROW_WORDS = 5, MOST_HALF_WIDTH = 256 };
 enum { WEIGHTED_WORD = 254, CLOSING_WORD = 255 };
 enum { MOST_TEXT = 16384 };
 
-/* A well-formed table of so many nodes, of some shape, numbered at random but for the root. */
-void make_tree(uint16_t *table, size_t nodes);
+/* A well-formed table of so many nodes, of some shape, numbered at random but for the root. No node
+   has more than so many children, at least one. */
+void make_tree(uint16_t *table, size_t nodes, size_t most);
+
+/* The most children of a node of a well-formed table. */
+size_t most_children(const uint16_t *table, size_t nodes);
 
 /* Damages a well-formed table so that this condition, 2 to 5 or 14, is the first that holds. 5 and
    14 need two nodes; with 5 there may be rings too. */

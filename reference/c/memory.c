@@ -6,7 +6,8 @@
  *                                  then start right after one; inputs lie on read-only pages
  *     memory apart ROUNDS SEED     each slice is a block of its own, for valgrind's memcheck; what
  *                                  is to be written is not initialised
- *     memory stack                 what calls of read_newick and of trees_of_dots take of the stack
+ *     memory stack                 what calls of read_newick, of trees_of_dots and of
+ *                                  layout_treetex take of the stack
  */
 
 #include "hiwenoka.h"
@@ -35,20 +36,21 @@ enum operation {
     SCREEN,
     SMALL,
     DOTS,
+    TREETEX,
     OPERATIONS
 };
 
 static const char *const names[OPERATIONS]
-    = {"check_table", "layout",      "mirror",    "renumber",   "read_sheet",   "write_sheet",
-       "list_sheet",  "read_newick", "on_screen", "small_tree", "trees_of_dots"};
+    = {"check_table", "layout",      "mirror",    "renumber",   "read_sheet",    "write_sheet",
+       "list_sheet",  "read_newick", "on_screen", "small_tree", "trees_of_dots", "layout_treetex"};
 
 /* The numbers that each operation can give, as bits. */
 static const unsigned possible[OPERATIONS]
-    = {0x403f,  0x241ff, 0x40bf,  0x40bf,   0x1e81,  0x260ff,
-       0x25ebd, 0x18081, 0xc0001, 0x300081, 0x500041};
+    = {0x403f,  0x241ff, 0x40bf,  0x40bf,   0x1e81,   0x260ff,
+       0x25ebd, 0x18081, 0xc0001, 0x300081, 0x500041, 0x18241ff};
 
 /* The number that a call must give is not known. */
-enum { ANY = 23 };
+enum { ANY = 25 };
 
 static unsigned long given[OPERATIONS][ANY];
 static enum placing placing;
@@ -115,8 +117,14 @@ struct lengths {
     size_t widths, places, levels, record, work;
 };
 
-static void layout(const uint16_t *entries, size_t len, uint16_t separation,
-                   const uint16_t *half_widths, struct lengths lengths, unsigned wanted)
+/* D and E; the plain layout has no E. */
+struct spaces {
+    uint16_t separation, extra;
+};
+
+static void lay_out(enum operation operation, const uint16_t *entries, size_t len,
+                    struct spaces spaces, const uint16_t *half_widths, struct lengths lengths,
+                    unsigned wanted)
 {
     take_back(placing);
     struct lent table = lend_input(entries, 2 * len);
@@ -125,12 +133,18 @@ static void layout(const uint16_t *entries, size_t len, uint16_t separation,
     struct lent record = lend_output(2 * lengths.record), work = lend_output(4 * lengths.work);
     struct lent nodes = lend_output(2), level_count = lend_output(2), pairs = lend_output(2);
     struct lent least = lend_output(4), greatest = lend_output(4);
-    uint16_t number = hiwenoka_layout(table.start, len, separation, widths.start, lengths.widths,
-                                      places.start, lengths.places, levels.start, lengths.levels,
-                                      record.start, lengths.record, work.start, lengths.work,
-                                      nodes.start, level_count.start, least.start, greatest.start,
-                                      pairs.start);
-    expect_number(LAYOUT, &table, number, wanted);
+    uint16_t number
+        = operation == LAYOUT
+              ? hiwenoka_layout(table.start, len, spaces.separation, widths.start, lengths.widths,
+                                places.start, lengths.places, levels.start, lengths.levels,
+                                record.start, lengths.record, work.start, lengths.work, nodes.start,
+                                level_count.start, least.start, greatest.start, pairs.start)
+              : hiwenoka_layout_treetex(table.start, len, spaces.separation, widths.start,
+                                        lengths.widths, spaces.extra, places.start, lengths.places,
+                                        levels.start, lengths.levels, record.start, lengths.record,
+                                        work.start, lengths.work, nodes.start, level_count.start,
+                                        least.start, greatest.start, pairs.start);
+    expect_number(operation, &table, number, wanted);
     expect_written(&widths, 0);
     expect_field(&nodes, number);
     expect_field(&level_count, number);
@@ -152,6 +166,18 @@ static void layout(const uint16_t *entries, size_t len, uint16_t separation,
     expect_words(&record, walked.record, 2 * walked.pairs);
     expect_written(&work, 64 * n);
     expect_zero(&work, 64 * n);
+}
+
+static void layout(const uint16_t *entries, size_t len, uint16_t separation,
+                   const uint16_t *half_widths, struct lengths lengths, unsigned wanted)
+{
+    lay_out(LAYOUT, entries, len, (struct spaces){separation, 0}, half_widths, lengths, wanted);
+}
+
+static void layout_treetex(const uint16_t *entries, size_t len, struct spaces spaces,
+                           const uint16_t *half_widths, struct lengths lengths, unsigned wanted)
+{
+    lay_out(TREETEX, entries, len, spaces, half_widths, lengths, wanted);
 }
 
 static void mirror(const uint16_t *entries, size_t len, size_t out_len, unsigned wanted)
@@ -329,6 +355,16 @@ static uint16_t wrong_separation(void)
     return (uint16_t)(below(4) == 0 ? 0 : 1025 + below(64511));
 }
 
+static struct spaces some_spaces(void)
+{
+    return (struct spaces){some_separation(), (uint16_t)below(below(2) == 0 ? 4 : 1025)};
+}
+
+static uint16_t wrong_extra(void)
+{
+    return (uint16_t)(1025 + (below(2) == 0 ? 0 : below(64511)));
+}
+
 /* Just long enough for so many nodes. */
 static struct lengths exact(size_t nodes)
 {
@@ -340,12 +376,14 @@ static struct room exact_room(size_t nodes)
     return (struct room){2 * nodes, nodes, BLOCK_BYTES * block_count(nodes)};
 }
 
-/* The five operations on a table, with slices that are just long enough. */
+/* The six operations on a table, with slices that are just long enough. */
 static void every_operation(const uint16_t *table, size_t len, unsigned wanted)
 {
     size_t nodes = (len + 1) / 2;
+    unsigned for_treetex = wanted == 0 && most_children(table, nodes) > 2 ? 23 : wanted;
     check_table(table, len, wanted);
     layout(table, len, some_separation(), some_widths(nodes), exact(nodes), wanted);
+    layout_treetex(table, len, some_spaces(), some_widths(nodes), exact(nodes), for_treetex);
     mirror(table, len, 2 * nodes, wanted);
     renumber(table, len, 2 * nodes, nodes, wanted);
     write_sheet(table, len, some_separation(), some_widths(nodes), exact_room(nodes), wanted);
@@ -355,7 +393,7 @@ static void every_operation(const uint16_t *table, size_t len, unsigned wanted)
 static void wrong_lengths(void)
 {
     uint16_t table[2 * (MOST_NODES + 1)];
-    make_tree(table, MOST_NODES + 1);
+    make_tree(table, MOST_NODES + 1, MOST_NODES);
     size_t lengths[] = {0, 1, 3, 2047, 2049, 2050};
     every_operation(table, lengths[below(6)], 1);
 }
@@ -389,6 +427,29 @@ static void damaged_tables(const uint16_t *table, size_t nodes)
     every_operation(damaged, 2 * nodes, ANY);
 }
 
+/* One of a layout's slices shorter, and the number that it gives. */
+static unsigned shorten(struct lengths *lengths, unsigned slice, size_t by)
+{
+    lengths->places -= slice == 0 ? by : 0;
+    lengths->levels -= slice == 1 ? by : 0;
+    lengths->record -= slice == 2 ? by : 0;
+    lengths->work -= slice == 3 ? by : 0;
+    lengths->widths -= slice == 4 ? by : 0;
+    return slice == 4 ? 17 : slice == 3 ? 8 : 7;
+}
+
+/* All of them longer than so many nodes need. */
+static struct lengths longer_than(size_t nodes)
+{
+    struct lengths longer = exact(nodes);
+    longer.widths += 1 + below(9);
+    longer.places += 1 + below(9);
+    longer.levels += 1 + below(9);
+    longer.record += 1 + below(9);
+    longer.work += 1 + below(33);
+    return longer;
+}
+
 /* Slices one too short, empty and longer than needed. */
 static void other_lengths(const uint16_t *table, size_t nodes)
 {
@@ -396,12 +457,7 @@ static void other_lengths(const uint16_t *table, size_t nodes)
     uint16_t separation = some_separation();
     for (unsigned slice = 0; slice < 5; slice++) {
         struct lengths lengths = exact(nodes);
-        lengths.places -= slice == 0 ? shorter : 0;
-        lengths.levels -= slice == 1 ? shorter : 0;
-        lengths.record -= slice == 2 ? shorter : 0;
-        lengths.work -= slice == 3 ? shorter : 0;
-        lengths.widths -= slice == 4 ? shorter : 0;
-        unsigned number = slice == 4 ? 17 : slice == 3 ? 8 : 7;
+        unsigned number = shorten(&lengths, slice, shorter);
         layout(table, len, separation, some_widths(nodes), lengths, number);
         if (below(2) == 0) {
             layout(table, len, separation, wrong_widths(nodes), lengths, 17);
@@ -412,13 +468,7 @@ static void other_lengths(const uint16_t *table, size_t nodes)
     layout(table, len, separation, some_widths(nodes), (struct lengths){nodes, 0, 0, 0, 0}, 7);
     layout(table, len, separation, some_widths(nodes), (struct lengths){0, 0, 0, 0, 0}, 17);
     layout(table, len, separation, wrong_widths(nodes), exact(nodes), 17);
-    struct lengths longer = exact(nodes);
-    longer.widths += 1 + below(9);
-    longer.places += 1 + below(9);
-    longer.levels += 1 + below(9);
-    longer.record += 1 + below(9);
-    longer.work += 1 + below(33);
-    layout(table, len, separation, some_widths(nodes), longer, 0);
+    layout(table, len, separation, some_widths(nodes), longer_than(nodes), 0);
     mirror(table, len, len - shorter, 7);
     mirror(table, len, len + 1 + below(9), 0);
     renumber(table, len, len - shorter, nodes, 7);
@@ -426,7 +476,34 @@ static void other_lengths(const uint16_t *table, size_t nodes)
     renumber(table, len, len + 1 + below(9), nodes + 1 + below(9), 0);
 }
 
-/* The same for a sheet that is written; where more than one thing is wrong, the first decides. */
+/* A tree with at most two children a node, and one with more, laid out for TreeTeX with slices of all
+   lengths. Where more than one thing is wrong, the first decides. */
+static void sheets_for_treetex(size_t nodes)
+{
+    uint16_t table[2 * MOST_NODES];
+    size_t len = 2 * nodes, shorter = below(2) == 0 ? 1 : nodes;
+    make_tree(table, nodes, 2);
+    struct spaces spaces = some_spaces(), greatest = {1024, 1024};
+    struct spaces too_great = {spaces.separation, wrong_extra()};
+    struct spaces both_wrong = {wrong_separation(), wrong_extra()};
+    struct lengths enough = exact(nodes), none = {nodes, 0, 0, 0, 0};
+    layout_treetex(table, len, spaces, some_widths(nodes), enough, 0);
+    layout_treetex(table, len, greatest, some_widths(nodes), longer_than(nodes), 0);
+    layout_treetex(table, len, too_great, some_widths(nodes), below(2) == 0 ? enough : none, 24);
+    layout_treetex(table, len, too_great, wrong_widths(nodes), below(2) == 0 ? enough : none, 17);
+    layout_treetex(table, len, both_wrong, wrong_widths(nodes), enough, 6);
+    for (unsigned slice = 0; slice < 5; slice++) {
+        struct lengths lengths = enough;
+        unsigned number = shorten(&lengths, slice, shorter);
+        layout_treetex(table, len, spaces, some_widths(nodes), lengths, number);
+    }
+    make_tree(table, nodes, MOST_NODES);
+    if (most_children(table, nodes) > 2) {
+        layout_treetex(table, len, both_wrong, wrong_widths(nodes), none, 23);
+    }
+}
+
+/* A sheet that is written, with slices of all lengths; again the first decides. */
 static void other_rooms(const uint16_t *table, size_t nodes)
 {
     size_t len = 2 * nodes;
@@ -499,7 +576,7 @@ static void large_texts(size_t len)
     uint16_t table[2 * (MOST_NODES + 1)], labels[2 * (MOST_NODES + 1)];
     memset(text, '(', sizeof text);
     read_newick(text, below(2) == 0 ? MOST_TEXT : below(MOST_TEXT), len, len, 15);
-    make_tree(table, MOST_NODES + 1);
+    make_tree(table, MOST_NODES + 1, MOST_NODES);
     make_labels(labels, MOST_NODES + 1);
     size_t bytes = make_text(text, table, labels);
     read_newick(text, bytes, len, len, 16);
@@ -628,9 +705,10 @@ static void one_round(uint64_t seed)
     uint16_t table[2 * MOST_NODES];
     seed_random(seed);
     size_t nodes = some_size();
-    make_tree(table, nodes);
+    make_tree(table, nodes, MOST_NODES);
     every_operation(table, 2 * nodes, 0);
     other_lengths(table, nodes);
+    sheets_for_treetex(nodes);
     other_rooms(table, nodes);
     wrong_lengths();
     damaged_tables(table, nodes);

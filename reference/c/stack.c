@@ -3,14 +3,16 @@
 #include "dots.h"
 #include "hiwenoka.h"
 #include "lent.h"
+#include "random.h"
 #include "small_trees.h"
 #include <stdio.h>
 #include <string.h>
 #include <sys/mman.h>
 #include <ucontext.h>
 
-/* The stack ends at a guard as large as itself; a call that does not go into the text takes little. */
-enum { STACK = 256 << 10, LITTLE = 1 << 10, PAINT = 0xa5 };
+/* The stack ends at a guard as large as itself; a call that does not go into the text takes little.
+   Clearing more memory may take a few bytes more. */
+enum { STACK = 256 << 10, LITTLE = 1 << 10, FEW = 64, PAINT = 0xa5 };
 
 /* A text of parts, some of them repeated; `nodes` is how many it has. */
 struct text {
@@ -39,7 +41,7 @@ static const struct text texts[] = {
 
 static uint8_t bytes[MOST_TEXT + 1];
 static size_t len;
-static uint16_t table[2 * MOST_NODES], tapes[2 * MOST_NODES], nodes, number;
+static uint16_t table[2 * MOST_NODES], tapes[2 * MOST_NODES], nodes, number, separation;
 
 static void put(const char *part, size_t count)
 {
@@ -105,7 +107,7 @@ static void report_texts(size_t outside)
 /* The dots of one call. */
 static int32_t dots[2 * MOST_SMALL];
 static size_t dots_len;
-static uint16_t dots_nodes, separation, lowest, count;
+static uint16_t dots_nodes, lowest, count;
 
 static void find(void)
 {
@@ -141,10 +143,10 @@ static size_t report_trees(size_t outside, size_t nodes)
     return most;
 }
 
-static void report_other(const char *name, size_t used, size_t most)
+static void report_other(const char *function, const char *name, size_t used, size_t most)
 {
-    expect(used <= most, "no dots are gone into farther than those of a tree");
-    printf("trees_of_dots: %zu bytes of stack: %s: gave %u\n", used, name, number);
+    expect(used <= most, "nothing is gone into farther than what is accepted");
+    printf("%s: %zu bytes of stack: %s: gave %u\n", function, used, name, number);
 }
 
 static void report_dots(size_t outside)
@@ -154,21 +156,88 @@ static void report_dots(size_t outside)
         size_t used = report_trees(outside, nodes);
         most = used > most ? used : most;
     }
+    static const char function[] = "trees_of_dots";
     take_dots(MOST_SMALL, 0, 2);
     dots[1] = 1;
-    report_other("dots of no tree", found(outside, 0, 0), most);
+    report_other(function, "dots of no tree", found(outside, 0, 0), most);
     separation = 0;
-    report_other("a separation of 0", found(outside, 6, 0), most);
+    report_other(function, "a separation of 0", found(outside, 6, 0), most);
     dots[1] = INT32_MIN;
     dots[2] = 0;
     dots[3] = INT32_MIN;
-    report_other("a dot twice", found(outside, 22, 0), most);
+    report_other(function, "a dot twice", found(outside, 22, 0), most);
     dots[0] = INT32_MIN;
-    report_other("a level below 0", found(outside, 22, 0), most);
+    report_other(function, "a level below 0", found(outside, 22, 0), most);
     dots_len = 0;
-    report_other("no dots", found(outside, 22, 0), most);
+    report_other(function, "no dots", found(outside, 22, 0), most);
     dots_nodes = 65535;
-    report_other("too many nodes", found(outside, 20, 0), most);
+    report_other(function, "too many nodes", found(outside, 20, 0), most);
+}
+
+/* The layout of one call. */
+static int32_t places[MOST_NODES], work[16 * MOST_NODES], least, greatest;
+static uint16_t half_widths[MOST_NODES], levels[MOST_NODES], record[2 * MOST_NODES];
+static uint16_t extra, level_count, pairs;
+static size_t table_nodes;
+
+static void lay_out(void)
+{
+    number = hiwenoka_layout_treetex(table, 2 * table_nodes, separation, half_widths, table_nodes,
+                                     extra, places, MOST_NODES, levels, MOST_NODES, record,
+                                     2 * MOST_NODES, work, 16 * MOST_NODES, &nodes, &level_count,
+                                     &least, &greatest, &pairs);
+}
+
+/* The bytes of a call that must give a number. */
+static size_t laid_out(size_t outside, unsigned wanted)
+{
+    size_t used = depth_of(lay_out) - outside;
+    expect(number == wanted, "a tree is laid out, or refused");
+    return used;
+}
+
+/* Trees of so many nodes, of all shapes with so many children a node at most; those with more than
+   two are refused. */
+static size_t report_layouts(size_t outside, size_t size, size_t children)
+{
+    enum { TREES = 200 };
+    size_t most = 0, refused = 0;
+    table_nodes = size;
+    for (size_t tree = 0; tree < TREES; tree++) {
+        make_tree(table, size, children);
+        make_half_widths(half_widths, size);
+        separation = (uint16_t)(1 + below(1024));
+        extra = (uint16_t)below(1025);
+        unsigned wanted = most_children(table, size) > 2 ? 23 : 0;
+        size_t used = laid_out(outside, wanted);
+        refused += wanted != 0;
+        most = used > most ? used : most;
+    }
+    printf("layout_treetex: %zu bytes of stack at most: nodes %zu: %zu gave 0, %zu gave 23\n", most,
+           size, TREES - refused, refused);
+    return most;
+}
+
+/* What a layout takes hangs neither on the count of nodes nor on that of levels. */
+static void report_treetex(size_t outside)
+{
+    static const char function[] = "layout_treetex";
+    seed_random(1);
+    size_t few_nodes = report_layouts(outside, 16, 2), most = few_nodes + FEW;
+    expect(most < 8 * LITTLE, "a layout takes little");
+    expect(report_layouts(outside, 1, 2) <= most, "a node alone takes no more");
+    expect(report_layouts(outside, MOST_NODES, MOST_NODES) <= most, "nor do three children");
+    expect(report_layouts(outside, MOST_NODES, 2) <= most, "nor do many nodes");
+    extra = 1025;
+    report_other(function, "an extra space of 1,025", laid_out(outside, 24), most);
+    half_widths[0] = 257;
+    report_other(function, "a half-width of 257", laid_out(outside, 17), most);
+    separation = 0;
+    report_other(function, "a separation of 0", laid_out(outside, 6), most);
+    damage_tree(table, MOST_NODES, 14);
+    report_other(function, "a ring", laid_out(outside, 14), most);
+    table_nodes = 0;
+    report_other(function, "no table", laid_out(outside, 1), most);
 }
 
 void report_stack(void)
@@ -176,4 +245,5 @@ void report_stack(void)
     size_t outside = depth_of(no_call);
     report_texts(outside);
     report_dots(outside);
+    report_treetex(outside);
 }

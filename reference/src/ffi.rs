@@ -29,6 +29,27 @@ mod raw {
             greatest: *mut i32,
             pairs: *mut u16,
         ) -> u16;
+        pub fn hiwenoka_layout_treetex(
+            table: *const u16,
+            table_len: usize,
+            separation: u16,
+            half_widths: *const u16,
+            half_widths_len: usize,
+            extra: u16,
+            places: *mut i32,
+            places_len: usize,
+            levels: *mut u16,
+            levels_len: usize,
+            record: *mut u16,
+            record_len: usize,
+            work: *mut i32,
+            work_len: usize,
+            nodes: *mut u16,
+            level_count: *mut u16,
+            least: *mut i32,
+            greatest: *mut i32,
+            pairs: *mut u16,
+        ) -> u16;
         pub fn hiwenoka_mirror(
             table: *const u16,
             table_len: usize,
@@ -149,6 +170,41 @@ pub fn layout(
             separation,
             half_widths.as_ptr(),
             half_widths.len(),
+            lent.places.as_mut_ptr(),
+            lent.places.len(),
+            lent.levels.as_mut_ptr(),
+            lent.levels.len(),
+            lent.record.as_mut_ptr(),
+            lent.record.len(),
+            lent.work.as_mut_ptr(),
+            lent.work.len(),
+            &mut fields.nodes,
+            &mut fields.level_count,
+            &mut fields.least,
+            &mut fields.greatest,
+            &mut fields.pairs,
+        )
+    }
+}
+
+#[inline]
+pub fn layout_treetex(
+    table: &[u16],
+    separation: u16,
+    half_widths: &[u16],
+    extra: u16,
+    lent: &mut Slices,
+    fields: &mut Fields,
+) -> u16 {
+    // SAFETY: as in `layout`.
+    unsafe {
+        raw::hiwenoka_layout_treetex(
+            table.as_ptr(),
+            table.len(),
+            separation,
+            half_widths.as_ptr(),
+            half_widths.len(),
+            extra,
             lent.places.as_mut_ptr(),
             lent.places.len(),
             lent.levels.as_mut_ptr(),

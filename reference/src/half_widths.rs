@@ -93,6 +93,19 @@ pub fn damaged(half_widths: &[u16], random: &mut Random) -> Vec<u16> {
     damaged
 }
 
+/// Half-widths that are refused: too few, or one of them or more too great. For no nodes there are
+/// none.
+pub fn to_be_refused(nodes: usize, random: &mut Random) -> Vec<u16> {
+    let mut half_widths = of_any_kind(nodes, random);
+    match random.below(4) {
+        0 => half_widths.truncate(nodes.saturating_sub(1)),
+        1 => half_widths.truncate(random.below(nodes.max(1))),
+        _ if nodes > 0 => half_widths = damaged(&half_widths, random),
+        _ => (),
+    }
+    half_widths
+}
+
 #[cfg(test)]
 mod tests {
     use super::*;
@@ -107,6 +120,7 @@ mod tests {
                 assert!(!refused(&half_widths, nodes), "{}", kind.name);
                 assert!(refused(&half_widths, nodes + 1), "{}", kind.name);
                 assert!(refused(&damaged(&half_widths, &mut random), nodes));
+                assert!(refused(&to_be_refused(nodes, &mut random), nodes));
             }
         }
     }

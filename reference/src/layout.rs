@@ -5,12 +5,19 @@
 
 use crate::half_widths;
 use crate::table::{children_of, over_start, parents_first, refusal, Children};
+use crate::treetex::{Profile, MOST_EXTRA};
 
 /// The drawing of a subtree; its root alone is on the first level.
 type Drawing = Vec<Vec<(usize, i64)>>;
 
-/// The distance that two neighbours need, by their numbers.
-type Needed<'a> = &'a dyn Fn(usize, usize) -> i64;
+/// What sets nodes apart.
+#[derive(Clone, Copy)]
+struct Spacing<'a> {
+    /// The distance that two neighbours need, by their numbers.
+    needed: &'a dyn Fn(usize, usize) -> i64,
+    /// What is added at a significant node; nothing in the plain layout.
+    extra: i64,
+}
 
 /// D plus both half-widths.
 fn needed(separation: u16, half_widths: &[u16]) -> impl Fn(usize, usize) -> i64 + '_ {
@@ -62,7 +69,7 @@ struct Drawn {
 }
 
 /// Steps 1 to 6 for the tree with these children.
-fn draw(children: &Children, needed: Needed) -> Drawn {
+fn draw(children: &Children, spacing: Spacing) -> Drawn {
     let mut walked = Walked::default();
     let mut drawings: Vec<Option<Drawing>> = vec![None; children.len()];
     // Step 1: each subtree on its own, so children before their parents.
@@ -71,7 +78,7 @@ fn draw(children: &Children, needed: Needed) -> Drawn {
             .iter()
             .map(|&child| drawings[child].take().expect("drawn before its parent"))
             .collect();
-        drawings[node] = Some(draw_family(node, subtrees, needed, &mut walked));
+        drawings[node] = Some(draw_family(node, subtrees, spacing, &mut walked));
     }
     Drawn {
         levels: drawings[0].take().expect("the root is drawn last"),
@@ -84,7 +91,7 @@ fn draw(children: &Children, needed: Needed) -> Drawn {
 fn draw_family(
     node: usize,
     subtrees: Vec<Drawing>,
-    needed: Needed,
+    spacing: Spacing,
     walked: &mut Walked,
 ) -> Drawing {
     if subtrees.is_empty() {
@@ -92,7 +99,7 @@ fn draw_family(
     }
     let mut joined: Vec<Drawing> = Vec::new();
     for subtree in subtrees {
-        join(node, &mut joined, subtree, needed, walked);
+        join(node, &mut joined, subtree, spacing, walked);
     }
     // Step 5.
     let (first, last) = (
@@ -100,25 +107,29 @@ fn draw_family(
         root_place(&joined[joined.len() - 1]),
     );
     let place = first + (last - first) / 2;
+    // Below the node the levels of its children, side by side.
     let mut drawing = vec![vec![(node, place)]];
-    let level_count = joined.iter().map(Vec::len).max().unwrap_or(0);
-    for level in 0..level_count {
-        let row = joined.iter().filter_map(|child| child.get(level));
-        drawing.push(row.flatten().copied().collect());
+    for (level, row) in joined.into_iter().flat_map(|child| (1..).zip(child)) {
+        match drawing.get_mut(level) {
+            Some(beside) => beside.extend(row),
+            None => drawing.push(row),
+        }
     }
     move_right(&mut drawing, -place);
     drawing
 }
 
-/// Steps 2 to 4 for child j, the number of children already joined.
+/// Steps 2 to 4 for child j, the number of children already joined. A conflict below the children's
+/// own level makes their parent significant: then child j moves once more, after the walk.
 fn join(
     parent: usize,
     joined: &mut Vec<Drawing>,
     mut subtree: Drawing,
-    needed: Needed,
+    Spacing { needed, extra }: Spacing,
     walked: &mut Walked,
 ) {
     let j = joined.len();
+    let mut significant = false;
     if j > 0 {
         let elder = &joined[j - 1];
         let distance = needed(root(elder), root(&subtree));
@@ -147,7 +158,11 @@ fn join(
             };
             move_apart(joined, &mut subtree, &conflict);
             walked.conflicts.push(conflict);
+            significant |= level > 0;
         }
+    }
+    if significant {
+        move_right(&mut subtree, extra);
     }
     joined.push(subtree);
 }
@@ -173,6 +188,40 @@ fn root_place(drawing: &Drawing) -> i64 {
 fn move_right(drawing: &mut Drawing, distance: i64) {
     for (_, place) in drawing.iter_mut().flatten() {
         *place += distance;
+    }
+}
+
+/// What a layout is given to read.
+#[derive(Clone, Copy)]
+pub struct Given<'a> {
+    pub table: &'a [u16],
+    pub separation: u16,
+    pub half_widths: &'a [u16],
+    pub profile: Profile,
+}
+
+impl<'a> Given<'a> {
+    /// For the plain layout.
+    pub fn plain(table: &'a [u16], separation: u16, half_widths: &'a [u16]) -> Self {
+        Given {
+            table,
+            separation,
+            half_widths,
+            profile: Profile::Plain,
+        }
+    }
+
+    fn nodes(&self) -> usize {
+        self.table.len() / 2
+    }
+
+    /// The drawing of what is accepted.
+    fn drawn(&self) -> Drawn {
+        let spacing = Spacing {
+            needed: &needed(self.separation, self.half_widths),
+            extra: i64::from(self.profile.extra()),
+        };
+        draw(&children_of(self.table), spacing)
     }
 }
 
@@ -210,13 +259,17 @@ fn in_reading_order(levels: &Drawing) -> Vec<(usize, usize)> {
 /// The conflicts of a well-formed table with this separation and these half-widths, in the order in
 /// which they are met.
 pub fn conflicts(table: &[u16], separation: u16, half_widths: &[u16]) -> Vec<Conflict> {
-    let drawn = draw(&children_of(table), &needed(separation, half_widths));
-    drawn.walked.conflicts
+    let given = Given::plain(table, separation, half_widths);
+    given.drawn().walked.conflicts
 }
 
 /// The places of a well-formed table's nodes by the steps without widths: neighbours need D.
 pub fn places_without_widths(table: &[u16], separation: u16) -> Vec<i32> {
-    let drawn = draw(&children_of(table), &|_, _| i64::from(separation));
+    let spacing = Spacing {
+        needed: &|_, _| i64::from(separation),
+        extra: 0,
+    };
+    let drawn = draw(&children_of(table), spacing);
     let (places, _) = by_number(&drawn.levels, table.len() / 2);
     places
 }
@@ -234,10 +287,15 @@ fn by_number(drawing: &Drawing, nodes: usize) -> (Vec<i32>, Vec<u16>) {
     (places, levels)
 }
 
-/// The whole operation.
+/// The whole operation, plain.
 pub fn layout(table: &[u16], separation: u16, half_widths: &[u16], lent: &Slices) -> LaidOut {
-    match layout_refusal(table, separation, half_widths, lent) {
-        0 => accepted(table, separation, half_widths, lent),
+    layout_under(&Given::plain(table, separation, half_widths), lent)
+}
+
+/// The whole operation under any profile.
+pub fn layout_under(given: &Given, lent: &Slices) -> LaidOut {
+    match layout_refusal(given, lent) {
+        0 => accepted(given, lent),
         number => LaidOut {
             number,
             nodes: 0,
@@ -253,15 +311,20 @@ pub fn layout(table: &[u16], separation: u16, half_widths: &[u16], lent: &Slices
     }
 }
 
-/// The first of the conditions 1 to 5, 14, 6, 17, 7 and 8 that holds, or 0.
-fn layout_refusal(table: &[u16], separation: u16, half_widths: &[u16], lent: &Slices) -> u16 {
-    let nodes = table.len() / 2;
-    if refusal(table) != 0 {
-        refusal(table)
-    } else if !(1..=1_024).contains(&separation) {
+/// The first of the conditions 1 to 5, 14, 23, 6, 17, 24, 7 and 8 that holds, or 0. In the plain
+/// layout neither 23 nor 24 can hold.
+fn layout_refusal(given: &Given, lent: &Slices) -> u16 {
+    let nodes = given.nodes();
+    if refusal(given.table) != 0 {
+        refusal(given.table)
+    } else if !given.profile.admits(&children_of(given.table)) {
+        23
+    } else if !(1..=1_024).contains(&given.separation) {
         6
-    } else if half_widths::refused(half_widths, nodes) {
+    } else if half_widths::refused(given.half_widths, nodes) {
         17
+    } else if given.profile.extra() > MOST_EXTRA {
+        24
     } else if lent.places.len() < nodes
         || lent.levels.len() < nodes
         || lent.record.len() < 2 * nodes
@@ -274,9 +337,9 @@ fn layout_refusal(table: &[u16], separation: u16, half_widths: &[u16], lent: &Sl
     }
 }
 
-fn accepted(table: &[u16], separation: u16, half_widths: &[u16], lent: &Slices) -> LaidOut {
-    let nodes = table.len() / 2;
-    let drawn = draw(&children_of(table), &needed(separation, half_widths));
+fn accepted(given: &Given, lent: &Slices) -> LaidOut {
+    let nodes = given.nodes();
+    let drawn = given.drawn();
     let (places, levels) = by_number(&drawn.levels, nodes);
     let pairs = in_reading_order(&drawn.levels);
     let record: Vec<u16> = pairs
@@ -302,7 +365,7 @@ fn accepted(table: &[u16], separation: u16, half_widths: &[u16], lent: &Slices) 
 }
 
 #[cfg(test)]
-mod tests {
+pub(crate) mod tests {
     use super::*;
     use crate::random::Random;
     use crate::shapes;
@@ -310,15 +373,20 @@ mod tests {
     use std::collections::BTreeSet;
 
     /// A layout with slices of just the lengths that are needed.
-    fn lay_out_wide(table: &[u16], separation: u16, half_widths: &[u16]) -> LaidOut {
-        let nodes = table.len() / 2;
+    pub(crate) fn lay_out_under(given: &Given) -> LaidOut {
+        let nodes = given.nodes();
         let slices = Slices {
             places: &vec![-9; nodes],
             levels: &vec![9; nodes],
             record: &vec![9; 2 * nodes],
             work: &vec![9; 16 * nodes],
         };
-        layout(table, separation, half_widths, &slices)
+        layout_under(given, &slices)
+    }
+
+    /// The plain one.
+    fn lay_out_wide(table: &[u16], separation: u16, half_widths: &[u16]) -> LaidOut {
+        lay_out_under(&Given::plain(table, separation, half_widths))
     }
 
     /// The same with half-widths 0.
@@ -338,10 +406,18 @@ mod tests {
 
     /// The same with the half-width of each node between level and place.
     fn expect_wide(separation: u16, dots: &[(usize, u16, i32)]) {
+        expect_under(Profile::Plain, separation, dots);
+    }
+
+    /// The same under any profile.
+    pub(crate) fn expect_under(profile: Profile, separation: u16, dots: &[(usize, u16, i32)]) {
         let list: Vec<usize> = dots.iter().map(|dot| dot.0).collect();
         let half_widths: Vec<u16> = dots.iter().map(|dot| dot.1).collect();
         let table = shapes::table_of_levels(&list);
-        let laid = lay_out_wide(&table, separation, &half_widths);
+        let laid = lay_out_under(&Given {
+            profile,
+            ..Given::plain(&table, separation, &half_widths)
+        });
         let places: Vec<i32> = dots.iter().map(|dot| dot.2).collect();
         assert_eq!(laid.number, 0);
         assert_eq!(usize::from(laid.nodes), dots.len());
@@ -995,15 +1071,9 @@ mod tests {
         for nodes in 1..60 {
             let table = shapes::mixed(nodes, &mut random);
             let half_widths = half_widths::of_any_kind(nodes, &mut random);
-            let mut children: Children = vec![vec![1, 1 + nodes]];
-            for start in [1, 1 + nodes] {
-                for family in children_of(&table) {
-                    children.push(family.iter().map(|child| child + start).collect());
-                }
-            }
             let twice = [&[0], &half_widths[..], &half_widths].concat();
             let alone = lay_out_wide(&table, 7, &half_widths);
-            let under = lay_out_wide(&crate::table::table_of(&children), 7, &twice);
+            let under = lay_out_wide(&shapes::twice(&table), 7, &twice);
             for part in under.places[1..].chunks(nodes) {
                 let drawn: Vec<i32> = part.iter().map(|place| place - part[0]).collect();
                 assert_eq!(drawn, alone.places);

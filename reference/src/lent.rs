@@ -27,6 +27,7 @@ impl Entry for i32 {
 
 /// A slice between two margins. Slice and margins hold random entries at first, so that a write
 /// of any other value shows wherever it lands.
+#[derive(Clone)]
 pub struct Lent<T> {
     entries: Vec<T>,
     before: Vec<T>,

@@ -4,11 +4,13 @@
 //! obviously right rather than fast. The comparisons in `tests/` hold the library and its listing
 //! program against them.
 
+pub mod binary_shapes;
 pub mod conflicts;
 pub mod ffi;
 pub mod files;
 pub mod half_widths;
 pub mod layout;
+pub mod layout_call;
 pub mod lent;
 pub mod listing;
 pub mod newick;
@@ -25,3 +27,4 @@ pub mod small_trees;
 pub mod table;
 pub mod texts;
 pub mod trees_of_dots;
+pub mod treetex;

@@ -4,7 +4,8 @@
 //! node, threads along the contours, shift and change for the go-betweens, ancestor and default
 //! ancestor. Whole units change one step: a share is rounded down, and of what remains of a shift
 //! the rightmost gaps take one unit each. The walks go along parent links instead of calling
-//! themselves, so that depth costs no stack. The table is taken as well-formed.
+//! themselves, so that depth costs no stack. The table is taken as well-formed. With an extra space,
+//! as for TreeTeX, no node may have more than two children.
 
 use crate::table::NONE;
 
@@ -56,6 +57,8 @@ pub struct Extent {
 
 /// The nodes of one tree, kept so that one layout after another needs no new memory.
 pub struct Pointers {
+    /// What is added at a significant node.
+    pub extra: u16,
     nodes: Vec<Node>,
     /// All nodes but the root, siblings side by side. It leads from a child to the one so many
     /// places to its left in one step; along the links a conflict would cost as many steps.
@@ -67,13 +70,16 @@ struct Walk<'a, const RECORD: bool> {
     nodes: &'a mut [Node],
     families: &'a [u16],
     separation: i32,
+    extra: i32,
     record: &'a mut [u16],
     pairs: usize,
 }
 
 impl Pointers {
+    /// With no extra space.
     pub fn new(most_nodes: usize) -> Self {
         Pointers {
+            extra: 0,
             nodes: vec![FRESH; most_nodes],
             families: vec![NONE; most_nodes],
         }
@@ -98,6 +104,7 @@ impl Pointers {
             nodes,
             families,
             separation: i32::from(separation),
+            extra: i32::from(self.extra),
             record,
             pairs: 0,
         };
@@ -237,7 +244,8 @@ impl<const RECORD: bool> Walk<'_, RECORD> {
     }
 
     /// Walks down the inner contours of a new subtree and the forest to its left, moves the
-    /// subtree where it comes too close, and threads the shallower outer contour to the deeper.
+    /// subtree where it comes too close, and then once by the extra space if it ever did, and
+    /// threads the shallower outer contour to the deeper.
     fn apportion(&mut self, subtree: u16, parent: u16) {
         let elder = self.at(subtree).left_sibling;
         if elder == NONE {
@@ -254,6 +262,7 @@ impl<const RECORD: bool> Walk<'_, RECORD> {
         let mut outside_left_sum = self.at(outside_left).modifier;
         let mut left_below = self.next_right(inside_left);
         let mut right_below = self.next_left(inside_right);
+        let mut significant = false;
         while left_below != NONE && right_below != NONE {
             inside_left = left_below;
             inside_right = right_below;
@@ -269,6 +278,7 @@ impl<const RECORD: bool> Walk<'_, RECORD> {
                 self.move_subtree(ancestor, subtree, shift);
                 inside_right_sum += shift;
                 outside_right_sum += shift;
+                significant = true;
             }
             inside_left_sum += self.at(inside_left).modifier;
             inside_right_sum += self.at(inside_right).modifier;
@@ -276,6 +286,11 @@ impl<const RECORD: bool> Walk<'_, RECORD> {
             outside_right_sum += self.at(outside_right).modifier;
             left_below = self.next_right(inside_left);
             right_below = self.next_left(inside_right);
+        }
+        if significant && self.extra > 0 {
+            self.move_subtree(elder, subtree, self.extra);
+            inside_right_sum += self.extra;
+            outside_right_sum += self.extra;
         }
         if left_below != NONE && self.next_right(outside_right) == NONE {
             let leaf = self.at_mut(outside_right);
@@ -378,11 +393,13 @@ impl<const RECORD: bool> Walk<'_, RECORD> {
 #[cfg(test)]
 mod tests {
     use super::*;
+    use crate::binary_shapes::{self, BINARY};
     use crate::conflicts::Tally;
     use crate::half_widths::{self, of_any_kind};
-    use crate::layout::{layout, Slices};
+    use crate::layout::{layout_under, Given, Slices};
     use crate::random::Random;
     use crate::shapes;
+    use crate::treetex::Profile;
 
     /// Holds the baseline against the literal layout in every figure, with half-widths 0.
     fn compare(pointers: &mut Pointers, table: &[u16], separation: u16) {
@@ -392,13 +409,18 @@ mod tests {
     /// The same with any half-widths.
     fn compare_wide(pointers: &mut Pointers, table: &[u16], separation: u16, half_widths: &[u16]) {
         let nodes = table.len() / 2;
+        let given = Given {
+            profile: match pointers.extra {
+                0 => Profile::Plain,
+                extra => Profile::TreeTex { extra },
+            },
+            ..Given::plain(table, separation, half_widths)
+        };
         let mut places = vec![7; nodes];
         let mut levels = vec![7; nodes];
         let mut record = vec![7; 2 * nodes];
-        let literal = layout(
-            table,
-            separation,
-            half_widths,
+        let literal = layout_under(
+            &given,
             &Slices {
                 places: &places,
                 levels: &levels,
@@ -505,6 +527,25 @@ mod tests {
                 }
             }
             compare(&mut pointers, &shapes::largest(family, 1_024), 5);
+        }
+    }
+
+    #[test]
+    fn agrees_under_an_extra_space() {
+        let mut random = Random::new(37);
+        let mut pointers = Pointers::new(1_024);
+        let small = (1..=9).flat_map(binary_shapes::every_tree);
+        let tables: Vec<_> = small
+            .chain(BINARY.of_many_sizes(20, 10, 1, &mut random))
+            .collect();
+        for extra in [1, 2, 7, 1_024] {
+            pointers.extra = extra;
+            for table in &tables {
+                let separation = [1, 2, 5, 1_024][random.below(4)];
+                compare(&mut pointers, table, separation);
+                let half_widths = of_any_kind(table.len() / 2, &mut random);
+                compare_wide(&mut pointers, table, separation, &half_widths);
+            }
         }
     }
 

@@ -14,6 +14,21 @@ pub struct Shape {
     pub make: fn(usize, &mut Random) -> Vec<u16>,
 }
 
+/// A tree for each number from 1, the larger the greater it is.
+pub type Family = fn(usize) -> Vec<u16>;
+
+/// Trees of one kind: their shapes, and families of them, by name.
+pub struct Kind {
+    pub shapes: &'static [Shape],
+    pub families: &'static [(&'static str, Family)],
+}
+
+/// Trees of any kind.
+pub const ANY: Kind = Kind {
+    shapes: &SHAPES,
+    families: &[("contours", contour_family), ("shares", share_family)],
+};
+
 /// The shapes of every comparison.
 pub const SHAPES: [Shape; 10] = [
     Shape {
@@ -63,23 +78,23 @@ type Pick = fn(&[usize]) -> Option<&usize>;
 
 /// A tree that grows by one leaf at a time.
 #[derive(Clone)]
-struct Growing {
-    children: Children,
+pub(crate) struct Growing {
+    pub(crate) children: Children,
 }
 
 impl Growing {
-    fn root() -> Self {
+    pub(crate) fn root() -> Self {
         Growing {
             children: vec![vec![]],
         }
     }
 
-    fn nodes(&self) -> usize {
+    pub(crate) fn nodes(&self) -> usize {
         self.children.len()
     }
 
     /// A new last child.
-    fn add(&mut self, parent: usize) -> usize {
+    pub(crate) fn add(&mut self, parent: usize) -> usize {
         self.add_at(parent, self.children[parent].len())
     }
 
@@ -92,7 +107,7 @@ impl Growing {
     }
 
     /// A new child with some number of elder siblings.
-    fn add_somewhere(&mut self, parent: usize, random: &mut Random) -> usize {
+    pub(crate) fn add_somewhere(&mut self, parent: usize, random: &mut Random) -> usize {
         let place = random.between(0, self.children[parent].len());
         self.add_at(parent, place)
     }
@@ -142,7 +157,7 @@ impl Growing {
     }
 
     /// A new last child with the subtrees of another tree's root.
-    fn add_tree(&mut self, parent: usize, table: &[u16]) {
+    pub(crate) fn add_tree(&mut self, parent: usize, table: &[u16]) {
         let children = children_of(table);
         let mut numbers = vec![0; children.len()];
         numbers[0] = self.add(parent);
@@ -153,7 +168,7 @@ impl Growing {
         }
     }
 
-    fn table(&self) -> Vec<u16> {
+    pub(crate) fn table(&self) -> Vec<u16> {
         table_of(&self.children)
     }
 }
@@ -334,7 +349,7 @@ pub fn share_family(k: usize) -> Vec<u16> {
 }
 
 /// The member of a family with the greatest k that has at most `most_nodes` nodes.
-pub fn largest(family: fn(usize) -> Vec<u16>, most_nodes: usize) -> Vec<u16> {
+pub fn largest(family: Family, most_nodes: usize) -> Vec<u16> {
     (1..)
         .map(family)
         .take_while(|table| table.len() <= 2 * most_nodes)
@@ -484,9 +499,7 @@ fn add_rising(tree: &mut Growing, parent: usize, random: &mut Random) {
 
 /// A well-formed table of any shape, its numbers in any order.
 pub fn random_table(nodes: usize, random: &mut Random) -> Vec<u16> {
-    let shape = &SHAPES[random.below(SHAPES.len())];
-    let table = (shape.make)(nodes, random);
-    renumbered_at_random(&table, random)
+    ANY.random_table(nodes, random)
 }
 
 /// No links at all: refused 5 with two nodes or more.
@@ -638,6 +651,18 @@ pub fn table_of_levels(list: &[usize]) -> Vec<u16> {
     tree.table()
 }
 
+/// The tree twice under one root; the first follows it in its own order, then the second.
+pub fn twice(table: &[u16]) -> Vec<u16> {
+    let nodes = table.len() / 2;
+    let mut children: Children = vec![vec![1, 1 + nodes]];
+    for start in [1, 1 + nodes] {
+        for family in children_of(table) {
+            children.push(family.iter().map(|child| child + start).collect());
+        }
+    }
+    table_of(&children)
+}
+
 /// The same tree with other numbers; node 0 stays the root. Any table whose entries are in range
 /// will do.
 pub fn renumbered_at_random(table: &[u16], random: &mut Random) -> Vec<u16> {
@@ -690,6 +715,55 @@ fn sizes(small: usize, middling: usize, large: usize, random: &mut Random) -> Ve
     sizes
 }
 
+impl Kind {
+    /// A well-formed table of one of its shapes, its numbers in any order.
+    pub fn random_table(&self, nodes: usize, random: &mut Random) -> Vec<u16> {
+        let shape = &self.shapes[random.below(self.shapes.len())];
+        let table = (shape.make)(nodes, random);
+        renumbered_at_random(&table, random)
+    }
+
+    /// Every shape in many sizes, as it is and with other numbers, and the families.
+    pub fn of_many_sizes(
+        &self,
+        small: usize,
+        middling: usize,
+        large: usize,
+        random: &mut Random,
+    ) -> Vec<Vec<u16>> {
+        let mut tables = Vec::new();
+        for shape in self.shapes {
+            for nodes in sizes(small, middling, large, random) {
+                let table = (shape.make)(nodes, random);
+                tables.push(renumbered_at_random(&table, random));
+                tables.push(table);
+            }
+        }
+        for (_, family) in self.families {
+            tables.extend((1..8).map(family));
+            tables.push(largest(*family, 1_024));
+        }
+        tables
+    }
+
+    /// One tree of each shape and of each family, of at most so many nodes, by name.
+    pub fn trees_of_each_shape(
+        &self,
+        nodes: usize,
+        random: &mut Random,
+    ) -> Vec<(&'static str, Vec<u16>)> {
+        let mut trees: Vec<_> = self
+            .shapes
+            .iter()
+            .map(|shape| (shape.name, (shape.make)(nodes, random)))
+            .collect();
+        for (name, family) in self.families {
+            trees.push((name, largest(*family, nodes)));
+        }
+        trees
+    }
+}
+
 /// Every shape in many sizes, as it is and with other numbers, and the families of document 004.
 pub fn of_many_sizes(
     small: usize,
@@ -697,42 +771,25 @@ pub fn of_many_sizes(
     large: usize,
     random: &mut Random,
 ) -> Vec<Vec<u16>> {
-    let mut tables = Vec::new();
-    for shape in &SHAPES {
-        for nodes in sizes(small, middling, large, random) {
-            let table = (shape.make)(nodes, random);
-            tables.push(renumbered_at_random(&table, random));
-            tables.push(table);
-        }
-    }
-    for family in [contour_family, share_family] {
-        tables.extend((1..8).map(family));
-        tables.push(largest(family, 1_024));
-    }
-    tables
+    ANY.of_many_sizes(small, middling, large, random)
 }
 
 /// One tree of each shape and of both families of document 004, of at most so many nodes, by name.
 pub fn trees_of_each_shape(nodes: usize, random: &mut Random) -> Vec<(&'static str, Vec<u16>)> {
-    let mut trees: Vec<_> = SHAPES
-        .iter()
-        .map(|shape| (shape.name, (shape.make)(nodes, random)))
-        .collect();
-    trees.push(("contours", largest(contour_family, nodes)));
-    trees.push(("shares", largest(share_family, nodes)));
-    trees
+    ANY.trees_of_each_shape(nodes, random)
 }
 
 #[cfg(test)]
 mod tests {
     use super::*;
+    use crate::binary_shapes::BINARY;
     use crate::table::{level_by_level, refusal, renumber};
     use std::collections::BTreeSet;
 
     #[test]
     fn every_shape_is_well_formed_and_of_its_size() {
         let mut source = Random::new(11);
-        for shape in &SHAPES {
+        for shape in ANY.shapes.iter().chain(BINARY.shapes) {
             for nodes in (1..70).chain([256, 1_023, 1_024]) {
                 let table = (shape.make)(nodes, &mut source);
                 assert_eq!(table.len(), 2 * nodes, "{} of {nodes}", shape.name);

@@ -166,7 +166,7 @@ fn nothing_is_divided_for_a_node() {
 fn a_division_in_a_loop_is_seen() {
     // The layout divides once a conflict, and a listing its numbers by 10.
     let functions = functions();
-    for name in ["layout::layout", "hiwenoka_list_sheet"] {
+    for name in ["layout::draw", "hiwenoka_list_sheet"] {
         assert!(
             in_loops(&functions[name]).1 > 0,
             "{name} has no division in a loop"
@@ -216,7 +216,7 @@ fn a_small_tree_is_written_without_a_call_or_a_division() {
 #[test]
 fn a_call_a_division_and_the_stack_are_seen() {
     let functions = functions();
-    let [leave, divide, _, stack] = marks(&functions["layout::layout"]);
+    let [leave, divide, _, stack] = marks(&functions["layout::draw"]);
     let all = leave > 0 && divide > 0 && stack > 0;
     assert!(all, "a layout has them all");
     // The first jump leads to the next instruction only until the linker gives it another end.

@@ -12,6 +12,28 @@ use std::process::{Command, Stdio};
 /// What a layout's example prints: number, level and place of each node, and the neighbours.
 const LAID_OUT: &str = "0 0 0\n1 1 -3\n2 2 -7\n3 2 1\n4 1 3\n1 beside 4\n2 beside 3\n";
 
+/// What the example of a layout for TreeTeX prints. Leaves stand 4 apart under each of the two
+/// families, which start 4 apart too: their inner leaves would stand at one place, so the second
+/// family moves by 4, and by the extra space. Half of 8 is 4, half of 14 is 7.
+const FOR_TREETEX: &str = "\
+extra 0
+0 0 0
+1 1 -4
+2 2 -6
+3 2 -2
+4 1 4
+5 2 2
+6 2 6
+extra 6
+0 0 0
+1 1 -7
+2 2 -9
+3 2 -5
+4 1 7
+5 2 5
+6 2 9
+";
+
 /// What the example of a written sheet prints: the listing of the file.
 const WRITTEN: &str = "\
 sheet 6 3 4 -5 12
@@ -139,6 +161,8 @@ fn the_programs_in_c_build_and_print() {
     lists(built("examples/list.c", "gcc "));
     let printed = printed_by(&mut built("examples/layout.c", "gcc "));
     assert_eq!(printed, LAID_OUT);
+    let printed = printed_by(&mut built("examples/treetex.c", "gcc "));
+    assert_eq!(printed, FOR_TREETEX);
     let printed = printed_by(&mut built("examples/write.c", "gcc "));
     assert_eq!(printed, WRITTEN);
     lists_texts(built("examples/newick.c", "gcc "));
@@ -155,6 +179,8 @@ fn the_programs_in_rust_build_and_print() {
     lists(built("examples/list.rs", "rustc "));
     let printed = printed_by(&mut built("examples/layout.rs", "rustc "));
     assert_eq!(printed, LAID_OUT);
+    let printed = printed_by(&mut built("examples/treetex.rs", "rustc "));
+    assert_eq!(printed, FOR_TREETEX);
     let printed = printed_by(&mut built("examples/write.rs", "rustc "));
     assert_eq!(printed, WRITTEN);
     lists_texts(built("examples/newick.rs", "rustc "));

@@ -1,77 +1,13 @@
 //! The library's layout held against the model, call by call.
-//!
-//! The four slices that are written lie between margins and hold random entries at first, the
-//! result fields too. After a refusal every entry must be as it was and every field 0; after an
-//! acceptance every entry past those named must be as it was. Table and half-widths are only read.
 
 use reference::conflicts::Tally;
-use reference::ffi::{self, Fields};
-use reference::half_widths::{self, some_of, too_great, KINDS};
-use reference::layout::{self, places_without_widths, LaidOut, Slices};
-use reference::lent::{Entry, Lent};
+use reference::half_widths::{self, some_of, to_be_refused, too_great, KINDS};
+use reference::layout::{places_without_widths, Given, LaidOut};
+use reference::layout_call::{compare_every_length, some_separation, Call, Lengths};
 use reference::run::{Run, Shown};
 use reference::shapes::{self, random_table, SHAPES};
 use reference::table::NONE;
-use std::fmt;
-
-/// The lengths of the slices that are lent to be written.
-#[derive(Clone, Copy, Debug)]
-struct Lengths {
-    places: usize,
-    levels: usize,
-    record: usize,
-    work: usize,
-}
-
-impl Lengths {
-    /// Just long enough for so many nodes.
-    fn exact(nodes: usize) -> Self {
-        Lengths {
-            places: nodes,
-            levels: nodes,
-            record: 2 * nodes,
-            work: 16 * nodes,
-        }
-    }
-
-    /// All exact, and then each too short by one, with the number that it gives.
-    fn short_by_one(nodes: usize) -> [(u16, Self); 5] {
-        let exact = Lengths::exact(nodes);
-        let mut cases = [(7, exact); 5];
-        cases[0].0 = 0;
-        cases[1].1.places = exact.places.saturating_sub(1);
-        cases[2].1.levels = exact.levels.saturating_sub(1);
-        cases[3].1.record = exact.record.saturating_sub(1);
-        cases[4].0 = 8;
-        cases[4].1.work = exact.work.saturating_sub(1);
-        cases
-    }
-}
-
-/// What a call was given, for the message of a failure.
-struct Call<'a> {
-    table: &'a [u16],
-    separation: u16,
-    half_widths: &'a [u16],
-    lengths: Lengths,
-}
-
-impl fmt::Display for Call<'_> {
-    fn fmt(&self, f: &mut fmt::Formatter) -> fmt::Result {
-        let Call {
-            table,
-            separation,
-            half_widths,
-            lengths,
-        } = self;
-        write!(
-            f,
-            "layout with separation {separation}, {lengths:?}, {}; half-widths as {}",
-            Shown(table),
-            Shown(half_widths)
-        )
-    }
-}
+use reference::treetex::Profile;
 
 struct Comparison {
     run: Run,
@@ -85,70 +21,8 @@ impl Comparison {
         half_widths: &[u16],
         lengths: Lengths,
     ) -> LaidOut {
-        self.run.count_call();
-        let call = Call {
-            table,
-            separation,
-            half_widths,
-            lengths,
-        };
-        let given = table.to_vec();
-        let random = &mut self.run.random;
-        let widths: Lent<u16> = Lent::holding(half_widths, random);
-        let mut places: Lent<i32> = Lent::new(lengths.places, random);
-        let mut levels: Lent<u16> = Lent::new(lengths.levels, random);
-        let mut record: Lent<u16> = Lent::new(lengths.record, random);
-        let mut work: Lent<i32> = Lent::new(lengths.work, random);
-        let mut fields = Fields {
-            nodes: random.word(),
-            level_count: random.word(),
-            least: random.bits() as i32,
-            greatest: random.bits() as i32,
-            pairs: random.word(),
-        };
-        let before = Slices {
-            places: places.before(),
-            levels: levels.before(),
-            record: record.before(),
-            work: work.before(),
-        };
-        let wanted = layout::layout(table, separation, half_widths, &before);
-        let mut lent = ffi::Slices {
-            places: places.slice(),
-            levels: levels.slice(),
-            record: record.slice(),
-            work: work.slice(),
-        };
-        let number = ffi::layout(&given, separation, widths.after(), &mut lent, &mut fields);
-        self.run.count_number(number);
-        let run = &self.run;
-        run.expect("number", number, wanted.number, &call);
-        let wanted_fields = Fields {
-            nodes: wanted.nodes,
-            level_count: wanted.level_count,
-            least: wanted.least,
-            greatest: wanted.greatest,
-            pairs: wanted.pairs,
-        };
-        run.expect("fields", fields, wanted_fields, &call);
-        run.expect_slice("places", places.after(), &wanted.places, &call);
-        run.expect_slice("levels", levels.after(), &wanted.levels, &call);
-        run.expect_slice("record", record.after(), &wanted.record, &call);
-        run.expect_slice("work", work.after(), &wanted.work, &call);
-        self.expect_margins("places", &places, &call);
-        self.expect_margins("levels", &levels, &call);
-        self.expect_margins("record", &record, &call);
-        self.expect_margins("work", &work, &call);
-        self.expect_margins("half-widths", &widths, &call);
-        self.run.expect_slice("table", &given, table, &call);
-        self.run
-            .expect_slice("half-widths", widths.after(), half_widths, &call);
-        wanted
-    }
-
-    fn expect_margins<T: Entry>(&self, what: &str, lent: &Lent<T>, call: &Call) {
-        let what = format!("margins of {what} untouched");
-        self.run.expect(&what, lent.margins_untouched(), true, call);
+        let given = Given::plain(table, separation, half_widths);
+        Call { given, lengths }.compare(&mut self.run)
     }
 
     /// Slices that are just long enough.
@@ -181,50 +55,21 @@ impl Comparison {
             .expect("number of the paper", got, number, &"a case of the paper");
     }
 
-    /// A separation from 1 to 1,024, often a small one.
     fn separation(&mut self) -> u16 {
-        let random = &mut self.run.random;
-        let greatest = [3, 12, 1_024][random.below(3)];
-        random.between(1, greatest) as u16
+        some_separation(&mut self.run.random)
     }
 
     fn half_widths(&mut self, nodes: usize) -> Vec<u16> {
         half_widths::of_any_kind(nodes, &mut self.run.random)
     }
 
-    /// Half-widths that are refused: too few, or one of them or more too great.
     fn refused_widths(&mut self, nodes: usize) -> Vec<u16> {
-        let mut half_widths = self.half_widths(nodes);
-        let random = &mut self.run.random;
-        match random.below(4) {
-            0 => half_widths.truncate(nodes.saturating_sub(1)),
-            1 => half_widths.truncate(random.below(nodes.max(1))),
-            _ if nodes > 0 => half_widths = half_widths::damaged(&half_widths, random),
-            _ => (),
-        }
-        half_widths
+        to_be_refused(nodes, &mut self.run.random)
     }
 
-    /// Each slice too short by one, all exact, and all longer; each time with half-widths that are
-    /// taken, past which any words stand, and with such as are refused.
     fn every_length(&mut self, table: &[u16]) {
         let separation = self.separation();
-        let nodes = table.len().div_ceil(2);
-        let random = &mut self.run.random;
-        let mut longer = Lengths::exact(nodes);
-        longer.places += random.between(1, 9);
-        longer.levels += random.between(1, 9);
-        longer.record += random.between(1, 9);
-        longer.work += random.between(1, 33);
-        let cases = Lengths::short_by_one(nodes).map(|(_, lengths)| lengths);
-        for lengths in cases.into_iter().chain([longer]) {
-            let mut taken = self.half_widths(nodes);
-            let random = &mut self.run.random;
-            taken.extend((0..random.below(4)).map(|_| random.word()));
-            self.lay_out(table, separation, &taken, lengths);
-            let refused = self.refused_widths(nodes);
-            self.lay_out(table, separation, &refused, lengths);
-        }
+        compare_every_length(table, separation, Profile::Plain, &mut self.run);
     }
 
     /// The cases that the paper names, with its own numbers.
@@ -444,12 +289,7 @@ impl Comparison {
             let table = shapes::renumbered_at_random(&table, random);
             let mut lengths = Lengths::exact(nodes);
             if random.once_in(8) {
-                lengths = Lengths {
-                    places: random.between(0, 3 * nodes),
-                    levels: random.between(0, 3 * nodes),
-                    record: random.between(0, 6 * nodes),
-                    work: random.between(0, 48 * nodes),
-                };
+                lengths = Lengths::any(nodes, random);
             }
             let half_widths = match random.once_in(16) {
                 true => self.refused_widths(nodes),
@@ -458,18 +298,11 @@ impl Comparison {
             self.lay_out(&table, separation, &half_widths, lengths);
         }
         self.run.end_section("small trees of many shapes");
-        // Slices so long that the low 16 bits of their lengths alone would be too short.
         for nodes in [1, 2, 3, 64, 1_024] {
             let table = random_table(nodes, &mut self.run.random);
-            let long = Lengths {
-                places: 65_536,
-                levels: 65_536,
-                record: 65_536,
-                work: 65_536,
-            };
             let mut half_widths = self.half_widths(nodes);
             half_widths.resize(65_536, u16::MAX);
-            self.lay_out(&table, 5, &half_widths, long);
+            self.lay_out(&table, 5, &half_widths, Lengths::LONG);
         }
         self.run.end_section("slices of 65,536 entries");
     }

@@ -1,6 +1,6 @@
 //! The library reads and writes nothing but what it is lent, and leaves nothing undefined that it
 //! promises to write: `c/memory.c`, on guarded pages and under valgrind's memcheck. A small stack is
-//! enough for it, however deep a text is and whatever the dots: `c/stack.c`.
+//! enough for it, however deep a text or a tree is and whatever the dots: `c/stack.c`.
 
 use reference::random::seed;
 use reference::run::say;

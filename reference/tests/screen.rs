@@ -3,12 +3,14 @@
 //! Each of the three results lies between two neighbours, and all hold at first what no call gives.
 //! A call must write the three and nothing beside them. Floats are compared by their bits.
 
+use reference::binary_shapes::BINARY;
 use reference::ffi::{self, Fields};
 use reference::random::Random;
 use reference::run::Run;
 use reference::screen::{self, Judged, View, LEVEL_UNITS, MOST, MOST_ACROSS, MOST_DOWN, ZOOMS};
-use reference::shapes::trees_of_each_shape;
+use reference::shapes::ANY;
 use reference::table::MOST_NODES;
+use reference::treetex::{Profile, MOST_EXTRA};
 use std::fmt;
 
 /// How many calls there are at least, and how often each number must come out.
@@ -575,8 +577,13 @@ fn the_judgement_of_a_node_agrees_with_the_model() {
     run.finish(LEAST_CALLS);
 }
 
-/// The places and levels of a tree whose half-widths are all the same.
-fn laid_out(table: &[u16], separation: u16, half_width: u16) -> (Vec<i32>, Vec<u16>) {
+/// The places and levels of a tree under a profile, where half-widths are all the same.
+fn laid_out(
+    table: &[u16],
+    separation: u16,
+    half_width: u16,
+    profile: Profile,
+) -> (Vec<i32>, Vec<u16>) {
     let nodes = table.len() / 2;
     let (mut places, mut levels) = (vec![0; nodes], vec![0; nodes]);
     let mut lent = ffi::Slices {
@@ -585,34 +592,49 @@ fn laid_out(table: &[u16], separation: u16, half_width: u16) -> (Vec<i32>, Vec<u
         record: &mut vec![0; 2 * nodes],
         work: &mut vec![0; 16 * nodes],
     };
-    let half_widths = vec![half_width; nodes];
+    let widths = vec![half_width; nodes];
     let mut fields = Fields::default();
-    let number = ffi::layout(table, separation, &half_widths, &mut lent, &mut fields);
+    let number = match profile {
+        Profile::Plain => ffi::layout(table, separation, &widths, &mut lent, &mut fields),
+        Profile::TreeTex { extra } => {
+            ffi::layout_treetex(table, separation, &widths, extra, &mut lent, &mut fields)
+        }
+    };
     assert_eq!(number, 0, "the tree is laid out");
     (places, levels)
+}
+
+impl Comparison {
+    /// Every node of a sheet, at each zoom, with one of them in the middle, the root, and none.
+    fn sheet(&mut self, shape: &'static str, places: &[i32], levels: &[u16]) {
+        for zoom in ZOOMS {
+            let node = self.run.random.below(places.len());
+            let (place, level) = (places[node], levels[node]);
+            let view = view_of(i64::from(place), units_down(level), zoom);
+            let on = self.judge(Call { view, level, place }).on;
+            let run = &self.run;
+            run.expect("whether the node in the middle is on screen", on, 1, &shape);
+            let far = view_of(-MOST_UNITS, MOST_UNITS, zoom);
+            for view in [view, view_of(0, 0, zoom), far] {
+                for (&place, &level) in places.iter().zip(levels) {
+                    self.judge_as(0, shape, Call { view, level, place });
+                }
+            }
+        }
+    }
 }
 
 #[test]
 fn no_node_of_a_sheet_is_refused() {
     let mut comparison = Comparison::start("screen, sheets");
     let mut farthest = 0;
-    for (shape, table) in trees_of_each_shape(MOST_NODES, &mut comparison.run.random) {
-        for (separation, half_width) in [(1, 0), (1, 256), (1_024, 0), (1_024, 256)] {
-            let (places, levels) = laid_out(&table, separation, half_width);
-            farthest = places.iter().fold(farthest, |far, it| far.max(it.abs()));
-            for zoom in ZOOMS {
-                let node = comparison.run.random.below(places.len());
-                let (place, level) = (places[node], levels[node]);
-                let view = view_of(i64::from(place), units_down(level), zoom);
-                let on = comparison.judge(Call { view, level, place }).on;
-                let run = &comparison.run;
-                run.expect("whether the node in the middle is on screen", on, 1, &shape);
-                let far = view_of(-MOST_UNITS, MOST_UNITS, zoom);
-                for view in [view, view_of(0, 0, zoom), far] {
-                    for (&place, &level) in places.iter().zip(&levels) {
-                        comparison.judge_as(0, shape, Call { view, level, place });
-                    }
-                }
+    let extra = MOST_EXTRA;
+    for (kind, profile) in [(ANY, Profile::Plain), (BINARY, Profile::TreeTex { extra })] {
+        for (shape, table) in kind.trees_of_each_shape(MOST_NODES, &mut comparison.run.random) {
+            for (separation, half_width) in [(1, 0), (1, 256), (1_024, 0), (1_024, 256)] {
+                let (places, levels) = laid_out(&table, separation, half_width, profile);
+                farthest = places.iter().fold(farthest, |far, it| far.max(it.abs()));
+                comparison.sheet(shape, &places, &levels);
             }
         }
     }
