@@ -14,7 +14,8 @@ use Rattle.rule.proofs.Signed.{parts-add, AtMost}
 use Rattle.rule.proofs.Names.{names, names-draw}
 use Rattle.rule.proofs.Spacing.{row-none}
 use Rattle.rule.proofs.OnLevel.{OnLevel, top, down, on-left, on-right}
-use Rattle.rule.proofs.Width.{Narrow, span, span-small, narrow-drawOnto, narrow-none, narrow-alone}
+use Rattle.rule.proofs.Width.{Narrow, narrow-alone}
+use Rattle.rule.proofs.Span.{span, span-small, narrow-drawOnto, narrow-none}
 use Rattle.contours.specs.Rows.{rowDrawn, childrenDrawn}
 use Rattle.level_order.proofs.Positions.{Ordered, mono-le, within, run, run-node, run-nil, run-cut}
 use Rattle.contours.proofs.Places.{row-width, row-first, last-place}

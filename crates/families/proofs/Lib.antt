@@ -1,5 +1,5 @@
--- Why the engine's families are the rule's: the slice's small steps, one join from the top level to the row with one child more, and the
--- loops over the children and over the families. Stands on `contours`, as whose rows and subtrees the slice is read; `layout` uses it.
+-- Why the engine's families are the rule's: one join from the top level to the row with one child more, and the loops over the children and over
+-- the families. Stands on `contours`, as whose rows and subtrees the slice is read, and on `descent`, whose steps it takes; `layout` uses it.
 pub mod Children
 pub mod Joining
 pub mod Contour

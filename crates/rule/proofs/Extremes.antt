@@ -27,7 +27,8 @@ use Rattle.rule.proofs.Signed.{one-part, parts-add, parts-sub, parts-eq
 use Rattle.tree.proofs.Joined.{Some, some}
 use Rattle.rule.proofs.OnLevel.{OnLevel, top}
 use Rattle.rule.proofs.Lookup.{dot-place}
-use Rattle.rule.proofs.Width.{Narrow, span, span-small, narrow-draw}
+use Rattle.rule.proofs.Width.{Narrow}
+use Rattle.rule.proofs.Span.{span, span-small, narrow-draw}
 use Rattle.rule.proofs.Shapes.{spacedBy}
 use Rattle.rule.proofs.Own.{own, own-inside, draw-own}
 use Rattle.rule.proofs.Promises.{stands-at}

@@ -19,6 +19,7 @@ pub mod Exact
 pub mod Significant
 pub mod Led
 pub mod Width
+pub mod Span
 pub mod Own
 pub mod Promises
 pub mod ReadingOrder
