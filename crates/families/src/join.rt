@@ -13,8 +13,8 @@ use level_order::field::PLACE;
 use level_order::field::put;
 
 // Joins the child at position c to those from f to c, of the children from f to end, and says which child is the default now. Table,
-// separation and half-widths stand in the contract alone; `extra` is added where the walk met a conflict. On the top
-// level the child starts at the distance that it needs: nothing is met there.
+// separation and half-widths stand in the contract alone; `extra` is added where the walk met a conflict. On the top level the child starts
+// at the distance that it needs: nothing is met there.
 pub fn join(
     table: &[u16],
     separation: u16,

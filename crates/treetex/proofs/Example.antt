@@ -54,9 +54,9 @@ chains-places = refl
 
 -- ---- the order of the numbers
 
--- slices for m nodes
-pub room : ℕ → Slices
-room m = record { places = replicate m (pos 9); levels = replicate m 9; theRecord = replicate (2 * m) 9; work = replicate (16 * m) (pos 9) }
+-- results for m nodes, and w working entries
+pub room : ℕ → ℕ → Slices
+room m w = record { places = replicate m (pos 9); levels = replicate m 9; theRecord = replicate (2 * m) 9; work = replicate w (pos 9) }
 
 -- a root with two leaves, and with three
 pub two : List ℕ
@@ -66,8 +66,9 @@ pub three : List ℕ
 three = 1 ∷ none ∷ none ∷ 2 ∷ none ∷ 3 ∷ none ∷ none ∷ []
 
 -- each of 23, 6, 17, 24, 7 and 8 with all that come after it, then none: E = 1,024 is taken, and three children are not
-pub numbers : (treetexNumber three 0 [] 1025 (room 0) ≡ 23) × (treetexNumber two 0 [] 1025 (room 0) ≡ 6) × (treetexNumber two 1 [] 1025 (room 0) ≡ 17)
-    × (treetexNumber two 1 (256 ∷ 256 ∷ 256 ∷ []) 1025 (room 0) ≡ 24) × (treetexNumber two 1 (256 ∷ 256 ∷ 256 ∷ []) 1024 (room 0) ≡ 7)
-    × (treetexNumber two 1 (256 ∷ 256 ∷ 256 ∷ []) 1024 (room 3) ≡ 0) × (treetexNumber three 1 (0 ∷ 0 ∷ 0 ∷ 0 ∷ []) 0 (room 4) ≡ 23)
+pub numbers : (treetexNumber three 0 [] 1025 (room 0 0) ≡ 23) × (treetexNumber two 0 [] 1025 (room 0 0) ≡ 6) × (treetexNumber two 1 [] 1025 (room 0 0) ≡ 17)
+    × (treetexNumber two 1 (256 ∷ 256 ∷ 256 ∷ []) 1025 (room 0 0) ≡ 24) × (treetexNumber two 1 (256 ∷ 256 ∷ 256 ∷ []) 1024 (room 0 0) ≡ 7)
+    × (treetexNumber two 1 (256 ∷ 256 ∷ 256 ∷ []) 1024 (room 3 47) ≡ 8) × (treetexNumber two 1 (256 ∷ 256 ∷ 256 ∷ []) 1024 (room 3 48) ≡ 0)
+    × (treetexNumber three 1 (0 ∷ 0 ∷ 0 ∷ 0 ∷ []) 0 (room 4 64) ≡ 23)
 unfolding room two three forest treeOf childrenOf badLength badEntry rootHasSibling namedTwice unnamed notReached tableConditions threeChildren badSeparation badHalfWidths badExtra shortResults shortWork treetexNumber
-numbers = (refl, refl, refl, refl, refl, refl, refl)
+numbers = (refl, refl, refl, refl, refl, refl, refl, refl)
