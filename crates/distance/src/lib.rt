@@ -1,4 +1,6 @@
 // What neighbours need: the test of a sheet's half-widths.
+#![tactic(auto)]
+
 ghost use Rattle.std.specs.Prelude.{◌≡◌, ◌≤◌, max, length};
 ghost use Rattle.distance.specs.Needed as needed;
 
