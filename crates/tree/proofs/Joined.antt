@@ -64,6 +64,7 @@ pub data Some {A : Type 0} : List A → Type 0 where
   some : {x : A} {l : List A} → Some (x ∷ l)
 
 pub some-front : {A : Type 0} (l m : List A) → Some l → Some (l ++ m)
+some-front {A = A} [] m s = elim s [ ]
 some-front (x ∷ l) m s = some
 
 pub beside-some : {A : Type 0} (xs ys : List (List A)) → All Some xs → All Some ys → All Some (beside xs ys)

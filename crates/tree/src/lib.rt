@@ -1,4 +1,6 @@
 // Tree tables: check, mirror, renumber.
+#![tactic(auto)]
+
 ghost use Rattle.tree.specs.Operations.{CheckTable, Mirror, Renumber};
 ghost use Rattle.tree.specs.Steps.{Room};
 
