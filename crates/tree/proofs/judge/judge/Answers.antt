@@ -7,7 +7,6 @@ use Prim.Native.Nat.{ℕ, suc, ◌≤◌}
 use native.Mathlib.Omega.{arith}
 use lib.ListN.{length, take, get_or}
 use lib.Seq.{length-take-le, take_at, take_all}
-use borrow.Author.Tests.{eqb-false, ltb-false}
 use Rattle.tree.specs.Table.{none, nodes, next_sibling}
 use Rattle.tree.specs.Forest.{tree_of, preorder}
 use Rattle.tree.specs.WellFormed.{bad_length, bad_entry, root_has_sibling, unnamed, Passed, table_number}
@@ -18,7 +17,6 @@ use Rattle.tree.proofs.Linked.{tree-size}
 use Rattle.tree.proofs.Accepted.{good_length, length-good, alone-root, root-alone, linked}
 use Rattle.tree.proofs.Number.{length-bad, number_1, number_2, number_3, number_4, number_5, number_14, number_0}
 use Rattle.tree.proofs.judge.judge.Goals as goal
-use Rattle.tree.proofs.judge.judge.Goals.{then-entries-eq1-via-then-entries-eq1, then-entries-eq1-via-else-entries-eq1+then-entries-eq0, then-entries-eq1-via-else-entries-eq1+else-entries-eq0+then-entries-gt2048}
 use Rattle.tree.proofs.judge.judge.Lts as lts
 use Rattle.tree.proofs.judge.judge.Reads as reads
 use Rattle.tree.proofs.judge.judge.Tie as tie
@@ -47,11 +45,7 @@ module _ (c : Else3) where
   table = start.args.table.now
 
   length-ok : bad_length table ≡ false
-  length-ok =
-      let odd = c.if-entries-eq1.false in
-      let empty = eqb-false (length table) 0 c.if-entries-eq0.false-raw in
-      let long = ltb-false 2048 (length table) c.if-entries-gt2048.false-raw in
-      length-good table (omega arith, omega arith, omega arith)
+  length-ok = length-good table (omega arith, omega arith, omega arith)
 
   second-read : get_or table 1 0 ≡ next_sibling table 0
   second-read = get_d_any table 1 0 none (omega (arith, good_length table length-ok))
@@ -103,11 +97,7 @@ refused t k order e = record { number = sym e; order = λ z. absurd (omega arith
 pub returns-then-entries-eq1 : goal.returns-then-entries-eq1
 returns-then-entries-eq1 c =
     let t = c.args.table.now in
-    refused t 0 _ (number_1 t (length-bad t (elim c.then-entries-eq1.branch [
-      | then-entries-eq1-via-then-entries-eq1 w ↦ inl w.if-entries-eq1.true
-      | then-entries-eq1-via-else-entries-eq1+then-entries-eq0 w ↦ inr (inl w.if-entries-eq0.true)
-      | then-entries-eq1-via-else-entries-eq1+else-entries-eq0+then-entries-gt2048 w ↦ inr (inr w.if-entries-gt2048.true)
-    ])))
+    refused t 0 _ (number_1 t (length-bad t (⊎_elim inl (⊎_elim (λ w. inr (inl w.1)) (λ w. inr (inr w.2))) c.then-entries-eq1.either)))
 
 pub scan_marked-scanned-requires : goal.scan_marked-scanned-requires
 scan_marked-scanned-requires c = length-ok c.before
