@@ -8,14 +8,14 @@ ghost use Rattle.blocks.specs.Sums.{Summed, More, SideBySide, Grouped, Together}
 use super::{CLOSING_PLACE, WEIGHTED_PLACE, word};
 
 // The sums of some words. Both wrap.
-#[derive(Drop)]
+#[derive(Clone, Copy)]
 pub struct Sums {
     pub plain: u16,
     pub weighted: u16,
 }
 
 // The sums of eight lanes, each of every eighth word.
-#[derive(Drop)]
+#[derive(Clone, Copy)]
 pub struct Lanes {
     pub a: Sums,
     pub b: Sums,

@@ -1,4 +1,6 @@
 // The blocks of a file: words of 16 bits, the low byte first, a block's place and its check.
+#![tactic(auto)]
+
 ghost use Rattle.std.specs.Prelude.{◌≡◌, ◌+◌, ◌*◌, ◌<◌, ◌≤◌, length};
 ghost use Rattle.blocks.specs.Block.{block_bytes, word_at, in_place, IsBlock};
 
