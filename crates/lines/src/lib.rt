@@ -1,4 +1,6 @@
 // The text of a listing. Each operation judges first whether its text can be written, so that no store inside needs a test.
+#![tactic(auto)]
+
 ghost use Rattle.std.specs.Prelude.{◌≡◌};
 ghost use Rattle.lines.specs.Printed.{printable, ListingPrinted, RefusalPrinted};
 

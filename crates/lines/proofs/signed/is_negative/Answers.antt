@@ -4,11 +4,7 @@ use lib.IntN.{ℤ, pos}
 use lib.Signed.{lt_z}
 use mir.Syntax.{w32}
 use mir.ValLaws.{to_z-of_z}
-use Rattle.lines.proofs.signed.is_negative.Statement.{statement}
-use Rattle.lines.proofs.signed.is_negative.Tie as tie
+use Rattle.lines.proofs.signed.is_negative.Goals as goal
 
-returns : tie.Need-returns
+pub returns : goal.returns
 returns c = ap (λ (z : ℤ). lt_z z (pos 0)) (to_z-of_z w32 c.args.number c.ranges.number)
-
-pub is-negative-spec : {M : Type 1} → statement M
-is-negative-spec = tie.close (tie.spec returns)
