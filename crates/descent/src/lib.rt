@@ -1,5 +1,7 @@
 // The steps of the contour walk, by which one child is joined to its elder siblings: the right contour of the row and the left contour of the
 // child are walked down together.
+#![tactic(auto)]
+
 ghost use Rattle.std.specs.Prelude.{◌≡◌, ◌+◌, ◌-◌, ◌*◌, ◌≤◌, ◌<◌, pos, length};
 ghost use Rattle.rule.specs.Join.{above0};
 ghost use Rattle.level_order.specs.Fields;
@@ -13,7 +15,7 @@ use shifts::share;
 
 // Where the walk stands: on one level the row's nodes are at the positions from a to b and the child's from b to e. The places are those
 // of b - 1, b, a and e - 1, the child's as it started; `moved` is how far it has been moved.
-#[derive(Drop)]
+#[derive(Clone, Copy)]
 pub struct Stand {
     pub a: usize,
     pub b: usize,
