@@ -2,14 +2,10 @@
 use mathlib.Core.Path.{ap₂}
 use mathlib.Core.Bool.{◌&&◌}
 use Rattle.plots.proofs.Bits.{bits_equal}
-use Rattle.plots.proofs.same_point.Statement.{statement}
-use Rattle.plots.proofs.same_point.Tie as tie
+use Rattle.plots.proofs.same_point.Goals as goal
 
-returns : tie.Need-returns
+pub returns : goal.returns
 returns c =
     let a = c.args in
     let f = c.ranges in
     ap₂ ◌&&◌ (bits_equal a.level a.other f.level f.other) (bits_equal a.place a.at f.place f.at)
-
-pub same-point-spec : {M : Type 1} → statement M
-same-point-spec = tie.close (tie.spec returns)
