@@ -1,5 +1,7 @@
 // Shifts and changes. A meeting of two children leaves what those between them have to move as a shift and three changes; one pass over a row,
 // from right to left, carries all of it out.
+#![tactic(auto)]
+
 ghost use Rattle.std.specs.Prelude.{◌≡◌, true, ℕ, ◌-◌, ◌*◌, ◌≤◌, ◌<◌, nat_abs, length};
 ghost use Rattle.std.specs.Int.Signed.{non_neg};
 ghost use Rattle.level_order.specs.Fields;

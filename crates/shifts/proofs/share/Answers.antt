@@ -4,7 +4,6 @@ use mathlib.Core.List.{List}
 use Prim.Native.Nat.{ℕ, ◌+◌, ◌-◌, ◌≤◌, ◌<◌}
 use native.Mathlib.Nat.{mul-div-le, div-le_self, le_refl, le_trans, le_of_lt, sub-le}
 use native.Mathlib.Omega.{arith}
-use borrow.Author.Rules.{rules}
 use lib.IntN.{ℤ, pos, neg_ℤ, nat_abs, ◌-ℤ◌, +ℤ_idl}
 use lib.ListN.{length}
 use mir.Syntax.{w32}
@@ -16,17 +15,25 @@ use Rattle.level_order.specs.Fields.{cell, get, SHIFT, CHANGE}
 use Rattle.level_order.proofs.Signed32.{Held, held, signed}
 use Rattle.shifts.specs.Shifts.{added, shifted, lessened, raised}
 use Rattle.shifts.proofs.Shared.{shifted-length, lessened-length, raised-length, shifted-size, lessened-size, raised-size, behind}
-use Rattle.shifts.proofs.share.Statement.{statement}
+use Rattle.shifts.proofs.share.Goals as goal
+use Rattle.shifts.proofs.share.Lts as lts
+use Rattle.shifts.proofs.share.Reads as reads
 use Rattle.shifts.proofs.share.Tie as tie
 
-sub-gaps : tie.Need-overflow-sub-gaps
-sub-gaps c = search rules
+abbrev Start : Type 0
+Start = lts.Start tie.the-claims reads.Pre reads.Post tie.handed_clauses
 
-div-q : tie.Need-nonzero-div-q
-div-q c = search rules
+abbrev After-add : Type 0
+After-add = lts.After-add tie.the-claims reads.Pre reads.Post tie.handed_clauses
+
+abbrev After-add2 : Type 0
+After-add2 = lts.After-add2 tie.the-claims reads.Pre reads.Post tie.handed_clauses
+
+abbrev After-add3 : Type 0
+After-add3 = lts.After-add3 tie.the-claims reads.Pre reads.Post tie.handed_clauses
 
 -- at the function's start
-module _ (g : tie.Start) where
+module _ (g : Start) where
   abbrev work : List ℤ
   work = g.args.work.now
 
@@ -46,14 +53,14 @@ module _ (g : tie.Start) where
   r = remainder (c - i) s
 
   small : q ≤ 4194304
-  small = omega (arith, div-le_self s (c - i), g.pre.0)
+  small = omega (arith, div-le_self s (c - i), g.requires.i_lt_c)
 
   inside : r < c - i
-  inside = let some : 0 < c - i = omega (arith, g.pre.0) in remainder-small (c - i) s some
+  inside = let some : 0 < c - i = omega (arith, g.requires.i_lt_c) in remainder-small (c - i) s some
 
   -- the amounts that are added, as they are read
   whole-read : to_z w32 s ≡ pos s
-  whole-read = signed s (omega (arith, g.pre.0))
+  whole-read = signed s (omega (arith, g.requires.i_lt_c))
 
   one_more : to_z w32 (q + 1) ≡ pos (q + 1)
   one_more = signed (q + 1) (omega (arith, small))
@@ -70,13 +77,13 @@ module _ (g : tie.Start) where
   Ready l p = (cell p CHANGE < length l) × (nat_abs (get l CHANGE p) ≤ 16777216)
 
   order : i < c
-  order = g.pre.0.0
+  order = g.requires.i_lt_c.0
 
   room : cell c CHANGE < length work
-  room = g.pre.1.0
+  room = g.requires.c_in_bounds
 
   ready : (l : List ℤ) (p : ℕ) → length l ≡ length work → nat_abs (get l CHANGE p) ≤ nat_abs (get work CHANGE p) + (q + 2) → i ≤ p → p ≤ c → Ready l p
-  ready l p same size low high = (omega (arith, room), omega (arith, g.pre.1.1.1 p low high, small))
+  ready l p same size low high = (omega (arith, room), omega (arith, g.requires.by_index p low high, small))
 
   ready-shifted : Ready (shifted work i c s) c
   ready-shifted = ready (shifted work i c s) c (shifted-length work i c s) (omega (arith, shifted-size work i c s order room c)) (le_of_lt order) (le_refl c)
@@ -89,109 +96,85 @@ module _ (g : tie.Start) where
   ready-raised : Ready (raised work i c s) i
   ready-raised = ready (raised work i c s) i (raised-length work i c s) (raised-size work i c s order room i) (le_refl i) (le_of_lt order)
 
-mul-r : tie.Need-overflow-mul-r
-mul-r c = omega (arith, mul-div-le c.args.s (c.args.c - c.args.i), c.requires.0)
+pub overflow_mul-r : goal.overflow_mul-r
+overflow_mul-r c = omega (arith, mul-div-le c.args.s (c.args.c - c.args.i), c.requires.i_lt_c)
 
-sub-r : tie.Need-overflow-sub-r
-sub-r c = mul-div-le c.args.s (c.args.c - c.args.i)
+pub overflow_sub-r : goal.overflow_sub-r
+overflow_sub-r c = mul-div-le c.args.s (c.args.c - c.args.i)
 
-cast-add : tie.Need-overflow-cast-add
-cast-add c = record { sfits = omega (arith, small c.before, c.before.requires.0) }
+pub overflow_cast-s : goal.overflow_cast-s
+overflow_cast-s c = record { sfits = omega (arith, small c.before, c.requires.i_lt_c) }
 
-add-requires : tie.Need-add-requires
-add-requires c κs =
+pub add-requires : goal.add-requires
+add-requires c =
     let g = c.before in
-    (omega (arith, room g), (omega (arith, g.requires.1.1.0), omega (arith, ap nat_abs (whole-read g), ap nat_abs (quotient-read g), small g, g.requires.0)))
+    record { field_in_bounds = omega (arith, room g); p_bound = (omega (arith, g.requires.c_bound), omega (arith, ap nat_abs (whole-read g), ap nat_abs (quotient-read g), small g, g.requires.i_lt_c)) }
 
 -- ---- once the shift is added
 
-module _ (a : tie.After-add) where
-  abbrev start1 : tie.Start
+module _ (a : After-add) where
+  abbrev start1 : Start
   start1 = a.before.before
 
-  now1 : a.add.last.0 ≡ shifted (work start1) (i start1) (c start1) (s start1)
+  now1 : a.add.new.work ≡ shifted (work start1) (i start1) (c start1) (s start1)
   now1 = a.add.ensures ∙ ap (added (work start1) SHIFT (c start1)) (whole-read start1)
 
-add-add : tie.Need-overflow-add-add
-add-add c = omega (arith, small (start1 c.before.before))
+pub overflow_add-q : goal.overflow_add-q
+overflow_add-q c = omega (arith, small (start1 c.before.before))
 
-cast-add-2 : tie.Need-overflow-cast-add-2
-cast-add-2 c = record { sfits = omega (arith, small (start1 c.before.before)) }
+pub overflow_cast-q : goal.overflow_cast-q
+overflow_cast-q c = record { sfits = omega (arith, small (start1 c.before.before)) }
 
-sub-add : tie.Need-overflow-sub-add
-sub-add c = (less (start1 c.before.before)).fits
+pub overflow_sub-q : goal.overflow_sub-q
+overflow_sub-q c = (less (start1 c.before.before)).fits
 
-add-requires-2 : tie.Need-add-requires-2
-add-requires-2 d κs =
+pub add-requires-2 : goal.add-requires-2
+add-requires-2 d =
     let a = d.before.before in
     let g = start1 a in
     let x = subst (λ (l : List ℤ). Ready g l (c g)) (sym (now1 a)) (ready-shifted g) in
-    (x.0, (x.1, omega (arith, ap nat_abs (less g).read, nat_abs_neg (pos (q g + 1)), small g)))
+    record { field_in_bounds = x.0; p_bound = (x.1, omega (arith, ap nat_abs (less g).read, nat_abs_neg (pos (q g + 1)), small g)) }
 
 -- ---- once the change at c is lessened
 
-module _ (a : tie.After-add2) where
-  abbrev start2 : tie.Start
+module _ (a : After-add2) where
+  abbrev start2 : Start
   start2 = start1 a.before.before.before
 
-  now2 : a.add2.last.0 ≡ lessened (work start2) (i start2) (c start2) (s start2)
-  now2 = a.add2.ensures ∙ ap₂ (λ (l : List ℤ) (z : ℤ). added l CHANGE (c start2) z) (now1 a.before.before.before) (less start2).read
+  now2 : a.add-2.new.work ≡ lessened (work start2) (i start2) (c start2) (s start2)
+  now2 = a.add-2.ensures ∙ ap₂ (λ (l : List ℤ) (z : ℤ). added l CHANGE (c start2) z) (now1 a.before.before.before) (less start2).read
 
-sub-add-2 : tie.Need-overflow-sub-add-2
-sub-add-2 d = let g = start2 d.before.before in le_trans (le_of_lt (inside g)) (sub-le (c g) (i g))
+pub overflow_sub-c : goal.overflow_sub-c
+overflow_sub-c d = let g = start2 d.before.before in le_trans (le_of_lt (inside g)) (sub-le (c g) (i g))
 
-add-requires-3 : tie.Need-add-requires-3
-add-requires-3 d κs =
+pub add-requires-3 : goal.add-requires-3
+add-requires-3 d =
     let a = d.before.before in
     let g = start2 a in
     let x = subst (λ (l : List ℤ). Ready g l (c g - r g)) (sym (now2 a)) (ready-lessened g) in
-    (x.0, (x.1, omega arith))
+    record { field_in_bounds = x.0; p_bound = (x.1, omega arith) }
 
 -- ---- once the change at c - r is raised
 
-module _ (a : tie.After-add3) where
-  abbrev start3 : tie.Start
+module _ (a : After-add3) where
+  abbrev start3 : Start
   start3 = start2 a.before.before.before
 
-  now3 : a.add3.last.0 ≡ raised (work start3) (i start3) (c start3) (s start3)
-  now3 = a.add3.ensures ∙ ap (λ (l : List ℤ). added l CHANGE (c start3 - r start3) (pos 1)) (now2 a.before.before.before)
+  now3 : a.add-3.new.work ≡ raised (work start3) (i start3) (c start3) (s start3)
+  now3 = a.add-3.ensures ∙ ap (λ (l : List ℤ). added l CHANGE (c start3 - r start3) (pos 1)) (now2 a.before.before.before)
 
-cast-add-3 : tie.Need-overflow-cast-add-3
-cast-add-3 d = let g = start3 d.before.before in record { sfits = omega (arith, small g, g.pre.0) }
+pub overflow_cast-q-2 : goal.overflow_cast-q-2
+overflow_cast-q-2 d = let g = start3 d.before.before in record { sfits = omega (arith, small g, g.requires.i_lt_c) }
 
-add-requires-4 : tie.Need-add-requires-4
-add-requires-4 d κs =
+pub add-requires-4 : goal.add-requires-4
+add-requires-4 d =
     let a = d.before.before in
     let g = start3 a in
     let x = subst (λ (l : List ℤ). Ready g l (i g)) (sym (now3 a)) (ready-raised g) in
-    (x.0, (x.1, omega (arith, ap nat_abs (whole-read g), ap nat_abs (quotient-read g), small g, g.pre.0)))
+    record { field_in_bounds = x.0; p_bound = (x.1, omega (arith, ap nat_abs (whole-read g), ap nat_abs (quotient-read g), small g, g.requires.i_lt_c)) }
 
-same_length : tie.Need-same-length
-same_length c = search rules
-
-returns : tie.Need-returns
+pub returns : goal.returns
 returns e =
     let a = e.before.before.before.before in
     let g = start3 a in
-    e.before.add4.ensures ∙ ap₂ (λ (l : List ℤ) (z : ℤ). added l CHANGE (i g) z) (now3 a) (quotient-read g)
-
-pub share-spec : {M : Type 1} → statement M
-share-spec =
-    tie.close
-    (tie.spec
-    sub-gaps
-    div-q
-    mul-r
-    sub-r
-    cast-add
-    add-requires
-    add-add
-    cast-add-2
-    sub-add
-    add-requires-2
-    sub-add-2
-    add-requires-3
-    cast-add-3
-    add-requires-4
-    same_length
-    returns)
+    e.add-4.ensures ∙ ap₂ (λ (l : List ℤ) (z : ℤ). added l CHANGE (i g) z) (now3 a) (quotient-read g)
