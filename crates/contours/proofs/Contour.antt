@@ -16,9 +16,11 @@ use Rattle.contours.specs.Contours.{LeftSteps, RightSteps}
 -- ---- the contours of levels
 
 pub some-map : {A B : Type 0} (g : A → B) (x : List A) → Some x → Some (map g x)
+some-map {A = A} {B = B} g [] s = elim s [ ]
 some-map g (d ∷ x) s = some
 
 pub first-append : (x y : List Dot) → Some x → first_of (x ++ y) ≡ first_of x
+first-append [] y s = elim s [ ]
 first-append (d ∷ x) y s = refl
 
 -- what holds of every dot holds of those that are picked, one of each level
@@ -93,4 +95,5 @@ steps-over step s t (threaded h) = (h, t.1)
 steps-over step {l = d ∷ []} s t (deeper covered) = tt
 steps-over step {l = d ∷ e ∷ l} s t (deeper covered) = s
 steps-over step s t (deeper (threaded h)) = (s.0, (h, t.1.1))
-steps-over step s t (deeper (deeper r)) = (s.0, steps-over step s.1 t.1 (deeper r))
+steps-over step {l = d ∷ d' ∷ l} {m = e ∷ e' ∷ m} s t (deeper (deeper r)) =
+    (s.0, steps-over step {l = d' ∷ l} {m = e' ∷ m} s.1 t.1 (deeper {d = d'} {e = e'} r))

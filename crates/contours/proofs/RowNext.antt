@@ -17,7 +17,7 @@ use Rattle.contours.specs.Contours.{LeftSteps, RightSteps}
 use Rattle.contours.specs.Gather.{pending}
 use Rattle.contours.specs.Rows.{Columns, Owned, Row, row_drawn, children_drawn}
 use Rattle.level_order.proofs.Positions.{Ordered, run, family}
-use Rattle.contours.proofs.Contour.{left-steps, right-steps, steps-shift, steps-over}
+use Rattle.contours.proofs.Contour.{Thread, left-steps, right-steps, steps-shift, steps-over}
 use Rattle.contours.proofs.Threads.{Rising, rising-draw_onto, left_join, right-join}
 use Rattle.contours.proofs.Owners.{owned-join}
 use Rattle.contours.proofs.Walk.{Join, Fields}
@@ -111,11 +111,11 @@ module _ (first : ℕ → ℕ) (n : ℕ) (O : Ordered first n) (D : Spacing) (f 
           left-steps = rw (next_row, left-steps, left_join D the_row c the_child rule_row rule_child rising)
               (steps-over w'.left (rw left-steps at left-row)
               (steps-shift w'.left (λ e. e.child) (pos (movement D.extra ms)) (left_contour child_levels) (rw left-steps at left-child))
-              (rw E.total at E.left-thread));
+              (subst (λ (k : ℕ). Thread w'.left (left_contour row_levels) (map (shift_by (pos k)) (left_contour child_levels))) E.total E.left-thread));
           right-steps = rw (next_row, right-steps, right-join D the_row c the_child rule_row rule_child)
               (steps-over w'.right (steps-shift w'.right (λ e. e.child) (pos (movement D.extra ms)) (right_contour child_levels) (rw right-steps at right_child))
               (rw right-steps at right-row)
-              (rw E.total at E.right-thread));
+              (subst (λ (k : ℕ). Thread w'.right (map (shift_by (pos k)) (right_contour child_levels)) (right_contour row_levels)) E.total E.right-thread));
           owned = subst (Owned w'.ancestor f end d) (sym next-levels)
               (owned-join w'.ancestor f end c default (width the_row) (omega (arith, the_width)) (move_by (shares (width the_row) ms)) (shift_by (pos (movement D.extra ms)))
               (λ e. refl) (λ e. refl) (λ e. refl) (λ e. refl) d row_levels child_levels rule_row.some rule_child.some rule_child.tags owned-row E.marked E.default);

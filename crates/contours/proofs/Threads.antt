@@ -35,6 +35,7 @@ rising-over j c (d ∷ l) [] a b h r = r
 rising-over j c (d ∷ l) (e ∷ m) a b h r = (r.0, rising-over j d.child l m a.1 b.1 (omega (arith, a.0)) r.1)
 
 order_in : (D : Distance) (x : List Dot) → Some x → Spaced D x → (first_of x).child ≤ (last_of x).child
+order_in D [] s p = elim s [ ]
 order_in D (d ∷ []) s p = le_refl _
 order_in D (d ∷ e ∷ l) s p = le_trans p.0.order (order_in D (e ∷ l) some p.1)
 

@@ -1,7 +1,7 @@
 -- The position of the first child: past its parent, never going back, and for the last position the number of nodes. Assumes nothing.
 use mathlib.Core.Path.{◌≡◌, ap}
 use mathlib.Core.Logic.{⊎_elim}
-use Prim.Native.Nat.{ℕ, suc, ◌+◌, ◌-◌, ◌≤◌, ◌<◌}
+use Prim.Native.Nat.{ℕ, suc, ◌+◌, ◌≤◌, ◌<◌}
 use native.Mathlib.Omega.{arith}
 use Rattle.tree.specs.Forest.{Forest, size, children, siblings}
 use Rattle.tree.proofs.Counting.{below_or_not}

@@ -7,7 +7,7 @@ use native.Mathlib.Omega.{arith}
 use borrow.Author.Count.{below_more}
 use lib.IntN.{ℤ, pos}
 use lib.ListN.{length, drop}
-use Rattle.tree.specs.Forest.{Forest, node, size, roots, entry, children}
+use Rattle.tree.specs.Forest.{Forest, size, roots, entry, children}
 use Rattle.tree.proofs.Counting.{below_or_not}
 use Rattle.level_order.specs.LevelOrder.{waiting, node_at, first_at}
 use Rattle.level_order.specs.Fields.{get, NODE, FIRST, COUNT, PARENT, NEED, ANCESTOR, SHIFT, CHANGE}

@@ -7,7 +7,7 @@ use lib.IntN.{ℤ, pos}
 use lib.ListN.{length}
 use Rattle.distance.specs.Needed.{half_width}
 use Rattle.tree.specs.Table.{nodes}
-use Rattle.tree.specs.Forest.{Forest, node, size, roots, children, tree_of}
+use Rattle.tree.specs.Forest.{Forest, size, roots, children, tree_of}
 use Rattle.tree.specs.Levels.{children_of}
 use Rattle.tree.specs.WellFormed.{table_number}
 use Rattle.tree.proofs.Stands.{one-root, accepted-numbers, accepted-size}

@@ -1,5 +1,7 @@
 // The level-order numbering. The nodes wait in a queue, the fields NODE of the positions from p up to `tail`: each is taken in turn, and
 // its children are put behind the others.
+#![tactic(auto)]
+
 ghost use Rattle.std.specs.Prelude.{◌≡◌, ◌+◌, ◌*◌, ◌≤◌, ◌<◌, length};
 ghost use Rattle.tree.specs.Table.{nodes};
 ghost use Rattle.tree.specs.Levels.{children_of};

@@ -19,6 +19,7 @@ use Rattle.rule.proofs.Spacing.{Spaced}
 module _ (D : Distance) (around : (a b c : ℕ) → D a c ≤ D a b + D b c) where
   -- on one level, what a node c needs after a dot ends no further right than what it needs after the last one
   to_last : (c : ℕ) (d : Dot) (x : List Dot) → Spaced D x → Memᴰ d x → AtMost (d.place +ℤ pos (D d.node c)) ((last_of x).place +ℤ pos (D (last_of x).node c))
+  to_last c d [] s x3 = elim x3 [ ]
   to_last c d (e ∷ []) s (Memᴰ.head p) = rw p (le_refl _)
   to_last c d (e ∷ []) s (Memᴰ.tail k) = absurd (Memᴰ.not-nil k)
   to_last c d (e ∷ f ∷ l) s (Memᴰ.head p) =
@@ -36,6 +37,7 @@ module _ (D : Distance) (around : (a b c : ℕ) → D a c ≤ D a b + D b c) whe
 
   -- and what a dot needs after a node c begins no further left than what the first one needs
   from_first : (c : ℕ) (e : Dot) (y : List Dot) → Spaced D y → Memᴰ e y → AtMost ((first_of y).place +ℤ pos (D c e.node)) (e.place +ℤ pos (D c (first_of y).node))
+  from_first c e [] s x'' = elim x'' [ ]
   from_first c e (b ∷ l) s (Memᴰ.head p) = rw p (le_refl _)
   from_first c e (b ∷ []) s (Memᴰ.tail k) = absurd (Memᴰ.not-nil k)
   from_first c e (b ∷ f ∷ l) s (Memᴰ.tail k) =
@@ -54,6 +56,8 @@ module _ (D : Distance) (around : (a b c : ℕ) → D a c ≤ D a b + D b c) whe
   -- the row's dots moved by m, the child's by t
   pub across : (extra : ℕ) (m : ℕ → ℕ) (t : ℕ) → ((p r : ℕ) → p ≤ r → m p ≤ m r) → (xs ys : List (List Dot)) → All (Spaced D) xs → All (Spaced D) ys → Seams D extra m t xs ys
       → (d e : Dot) (l : ℕ) → OnLevel d l xs → OnLevel e l ys → AtMost (d.place +ℤ pos (m d.child) +ℤ pos (D d.node e.node + extra)) (e.place +ℤ pos t)
+  across extra m t mono [] ys sx sy S d e l x5 _ = elim x5 [ ]
+  across extra m t mono (x ∷ xs) [] sx sy S d e l _ x13 = elim x13 [ ]
   across extra m t mono (x ∷ xs) (y ∷ ys) sx sy S d e zero (top i) (top k) =
       let a = last_of x in
       let b = first_of y in

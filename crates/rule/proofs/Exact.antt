@@ -42,13 +42,13 @@ walk-exact : {D : Distance} {j c moved : ℕ} (xs ys : List (List Dot)) {m : ℕ
     → (total (meet D moved (right_contour xs) (left_contour ys)) ≡ 0) ⊎ Exact D extra m t xs ys
 walk-exact [] ys W = inl refl
 walk-exact (x ∷ xs) [] W = inl refl
-walk-exact {D} {moved = moved} (x ∷ xs) (y ∷ ys) {t = t} {extra = extra} W =
+walk-exact {D} {c = c} {moved = moved} (x ∷ xs) (y ∷ ys) {t = t} {extra = extra} W =
     ⊎_elim (λ z.
     ⊎_elim (λ e. inl (omega arith))
     (λ h. inr (exact (omega (arith, met-moves W)) (shortfall-exact (D (last_of x).node (first_of y).node) extra (last_of x).place (first_of y).place moved t h (omega arith))))
     (eq-zero-or-pos (met D moved x y).amount))
     (λ e. inr (lower e))
-    (walk-exact xs ys (walk-on W))
+    (walk-exact {c = (last_of x).child} xs ys (walk-on W))
 
 -- ---- the top level: where nothing was too close, the child stands where it started
 
@@ -109,6 +109,8 @@ pub record Measured (D : Distance) (extra : ℕ) (m : ℕ → ℕ) (t : ℕ) (xs
   pub counted : 1 ≤ pair_count left.node right.node (measure (right_contour xs) (left_contour ys))
 
 pub exact-dots : (D : Distance) (extra : ℕ) (m : ℕ → ℕ) (t : ℕ) (xs ys : List (List Dot)) → All Some xs → All Some ys → Exact D extra m t xs ys → Measured D extra m t xs ys
+exact-dots D extra m t [] ys p q x3 = elim x3 [ ]
+exact-dots D extra m t (x ∷ xs) [] p q x8 = elim x8 [ ]
 exact-dots D extra m t (x ∷ xs) (y ∷ ys) p q (exact z e) =
     record { left = last_of x; right = first_of y; level = 0; on_row = top (last_mem x p.0); on-child = top (first-mem y q.0); stays = z; exactly = e; counted = here }
   where

@@ -55,10 +55,12 @@ greater-ge x y = go (le_z x y) refl
 
 -- the least and the greatest are in the list
 least_in : (P : ℤ → Type 0) (l : List ℤ) → Some l → All P l → P (least_of l)
+least_in P [] s a = elim s [ ]
 least_in P (x ∷ []) s a = a.0
 least_in P (x ∷ y ∷ l) s a = either P (le_z x (least_of (y ∷ l))) x (least_of (y ∷ l)) a.0 (least_in P (y ∷ l) some a.1)
 
 greatest_in : (P : ℤ → Type 0) (l : List ℤ) → Some l → All P l → P (greatest_of l)
+greatest_in P [] s a = elim s [ ]
 greatest_in P (x ∷ []) s a = a.0
 greatest_in P (x ∷ y ∷ l) s a = either P (le_z x (greatest_of (y ∷ l))) (greatest_of (y ∷ l)) x (greatest_in P (y ∷ l) some a.1) a.0
 

@@ -141,6 +141,7 @@ module _ (D : Distance) (l v : ℕ) (s : Joining) (below : Drawing) (a b : Dot) 
 
   -- the gap before child i + t, of those between the two, grows by its growth
   pub gap_grows : (t : ℕ) → 0 < t → t ≤ gaps → gap_before after (a.child + t) ≡ gap_before before (a.child + t) +ℤ pos (growth gaps amount t)
+  gap_grows zero h g = elim h [ ]
   gap_grows (suc t) h g =
       let one_less : a.child + suc t - 1 - a.child ≡ t = omega arith in
       let all : a.child + suc t - a.child ≡ suc t = omega arith in

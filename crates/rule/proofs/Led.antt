@@ -18,6 +18,7 @@ use Rattle.rule.proofs.Walk.{Falling, Walking, walk-on, walk-seams}
 use Rattle.rule.proofs.Spacing.{Spaced}
 
 pub last-right : (D : Distance) (d : Dot) (x : List Dot) → Spaced D x → Memᴰ d x → (d.child ≤ (last_of x).child) × AtMost d.place (last_of x).place
+last-right D d [] s x3 = elim x3 [ ]
 last-right D d (e ∷ []) s (Memᴰ.head p) = rw p (le_refl _, le_refl _)
 last-right D d (e ∷ []) s (Memᴰ.tail k) = absurd (Memᴰ.not-nil k)
 last-right D d (e ∷ f ∷ l) s (Memᴰ.head p) =
@@ -34,11 +35,13 @@ pub record Led (m : ℕ → ℕ) (t : ℕ) (d : Dot) (l : ℕ) (ys : List (List 
 -- where no child up to c moves, no dot does
 stays : (D : Distance) (m : ℕ → ℕ) (c : ℕ) (xs : List (List Dot)) → Falling c xs → All (Spaced D) xs → ((p : ℕ) → p ≤ c → m p ≡ 0)
     → (d : Dot) (l : ℕ) → OnLevel d l xs → m d.child ≡ 0
+stays D m c [] f s h d l x4 = elim x4 [ ]
 stays D m c (x ∷ xs) f s h d zero (top k) = h d.child (le_trans (last-right D d x s.0 k).0 f.0)
 stays D m c (x ∷ xs) f s h d (suc l) (down o) = stays D m (last_of x).child xs f.1 s.1 (λ p k. h p (le_trans k f.0)) d l o
 
 pub stay_or_led : {D : Distance} {j c moved : ℕ} (xs ys : List (List Dot)) {m : ℕ → ℕ} {t extra : ℕ} → ((p r : ℕ) → p ≤ r → m p ≤ m r) → All (Spaced D) xs → All Some ys
     → Walking D j c moved xs ys m t extra → (d : Dot) (l : ℕ) → OnLevel d l xs → (m d.child ≡ 0) ⊎ Led m t d l ys
+stay_or_led {D = D} {j = j} {c = c} {moved = moved} [] ys {m = m} {t = t} {extra = extra} mono s q W d l o = elim o [ ]
 stay_or_led {D} {c = c} (x ∷ xs) [] {m} mono s q W d l o = inl (stays D m c (x ∷ xs) W.falling s W.moves d l o)
 stay_or_led {D} (x ∷ xs) (y ∷ ys) {m} {t} {extra} mono s q W d zero (top k) =
     let r = last-right D d x s.0 k in
@@ -54,5 +57,5 @@ stay_or_led {D} (x ∷ xs) (y ∷ ys) {m} {t} {extra} mono s q W d zero (top k) 
         parts_add ((last_of x).place +ℤ pos (m (last_of x).child)) (pos (D (last_of x).node (first_of y).node + extra)),
       );
     })
-stay_or_led (x ∷ xs) (y ∷ ys) mono s q W d (suc l) (down o) =
-    ⊎_elim inl (λ z. inr (record { leader = z.leader; on = down z.on; right = z.right })) (stay_or_led xs ys mono s.1 q.1 (walk-on W) d l o)
+stay_or_led {c = c} (x ∷ xs) (y ∷ ys) mono s q W d (suc l) (down o) =
+    ⊎_elim inl (λ z. inr (record { leader = z.leader; on = down z.on; right = z.right })) (stay_or_led {c = (last_of x).child} xs ys mono s.1 q.1 (walk-on W) d l o)

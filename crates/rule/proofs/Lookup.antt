@@ -10,7 +10,7 @@ use native.Mathlib.Omega.{arith}
 use lib.IntN.{pos}
 use borrow.Author.Tests.{eq-eqb, ne_eqb}
 use Rattle.tree.specs.Numbers.{count, member}
-use Rattle.tree.specs.Forest.{node, tree_of, preorder}
+use Rattle.tree.specs.Forest.{tree_of, preorder}
 use Rattle.tree.specs.Levels.{levels, together, level_in, level}
 use Rattle.tree.specs.WellFormed.{table_number}
 use Rattle.tree.proofs.Counting.{is_same, is-cases, count-append}

@@ -2,10 +2,10 @@
 use mathlib.Core.Path.{◌≡◌, refl, sym, ap, ap₂, ◌∙◌}
 use mathlib.Core.List.{List, [], ◌∷◌, map}
 use Prim.Native.Nat.{ℕ, ◌+◌}
-use lib.IntN.{ℤ, pos}
+use lib.IntN.{ℤ, pos, ◌+ℤ◌, ◌-ℤ◌}
 use Rattle.tree.specs.Forest.{Forest, nil, node, join as joinForest}
 use Rattle.tree.specs.Levels.{beside, levels}
-use Rattle.rule.specs.Drawing.{Drawing, none, at, append, dots, row_dots}
+use Rattle.rule.specs.Drawing.{Drawing, none, at, append, dots, row_dots, middle}
 use Rattle.rule.specs.Join.{Spacing, Meeting, spread, join, meetings, settled}
 use Rattle.rule.specs.Rule.{draw_onto, draw}
 use Rattle.tree.proofs.Joined.{join-nil, join_assoc, beside-nil, map-beside}
@@ -46,7 +46,7 @@ pub nodes-dots : (i : ℕ) (o : ℤ) (d : Drawing) → map (map (λ e. e.node)) 
 nodes-dots i o none = refl
 nodes-dots i o (at v x below after) =
     map-beside (λ e. e.node) (_ ∷ dots i _ below) (dots i o after)
-    ∙ ap₂ beside (ap (λ (l : List (List ℕ)). (v ∷ []) ∷ l) (nodes-dots i _ below)) (nodes-dots i o after)
+    ∙ ap₂ beside (ap (λ (l : List (List ℕ)). (v ∷ []) ∷ l) (nodes-dots i (o +ℤ pos x -ℤ pos (middle below)) below)) (nodes-dots i o after)
 
 pub nodes-row_dots : (i : ℕ) (d : Drawing) → map (map (λ e. e.node)) (row_dots i d) ≡ levels (names d)
 nodes-row_dots i none = refl

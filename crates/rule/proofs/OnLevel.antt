@@ -32,6 +32,7 @@ on-cases (x ∷ xs) (y ∷ ys) (down o) = ⊎_elim (λ k. inl (down k)) (λ k. i
 
 -- levels all of whose dots were moved
 pub on-map : {e : Dot} {l : ℕ} (f : Dot → Dot) (xs : List (List Dot)) → OnLevel e l (map (map f) xs) → (d : Dot) × OnLevel d l xs × (e ≡ f d)
+on-map {e = e} {l = l} f [] x' = elim x' [ ]
 on-map f (x ∷ xs) (top m) = let r = Memᴰ.of_map f x m in (r.0, top r.1, sym r.2)
 on-map f (x ∷ xs) (down o) = let r = on-map f xs o in (r.0, down r.1, r.2)
 
@@ -41,6 +42,7 @@ pub on-moved : {l : ℕ} (f : Dot → Dot) (xs : List (List Dot)) (P : Dot → T
 on-moved f xs P h e o = let r = on-map f xs o in subst P (sym r.2) (h r.0 r.1)
 
 pub on_move : {e : Dot} {l : ℕ} (f : Dot → Dot) (xs : List (List Dot)) → OnLevel e l xs → OnLevel (f e) l (map (map f) xs)
+on_move {e = e} {l = l} f [] x' = elim x' [ ]
 on_move f (x ∷ xs) (top m) = top (Memᴰ.map f m)
 on_move f (x ∷ xs) (down o) = down (on_move f xs o)
 

@@ -67,6 +67,7 @@ levels-once a b (l ∷ ls) =
     omega (arith, levels-once a b ls, level-once a b l, pair_count-append a b (side_by_side l) (pairs_in ls), count-append a l (together ls))
 
 level-pairs : (l : List ℕ) → Some l → length (side_by_side l) + 1 ≡ length l
+level-pairs [] h = elim h [ ]
 level-pairs (x ∷ []) h = refl
 level-pairs (x ∷ y ∷ l) h = omega (arith, level-pairs (y ∷ l) some)
 

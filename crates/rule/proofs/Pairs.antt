@@ -52,6 +52,8 @@ measure-seams (x ∷ xs) (y ∷ ys) = ap₂ (λ (p : Pair) (ps : List Pair). p �
 
 pairs_seam : (w : Pair → ℕ) (x y : List ℕ) → Some x → Some y
     → sum_over w (side_by_side (x ++ y)) ≡ sum_over w (side_by_side x) + (w (last_node x, first_node y) + sum_over w (side_by_side y))
+pairs_seam w [] y h k = elim h [ ]
+pairs_seam w (u ∷ []) [] h k = elim k [ ]
 pairs_seam w (u ∷ []) (z ∷ y) h k = omega arith
 pairs_seam w (u ∷ z ∷ x) y h k = omega (arith, pairs_seam w (z ∷ x) y some k)
 

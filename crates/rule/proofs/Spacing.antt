@@ -32,6 +32,8 @@ Spaced D (d ∷ []) = Unit {0}
 Spaced D (d ∷ e ∷ l) = Gap D d e × Spaced D (e ∷ l)
 
 pub spaced-append : (D : Distance) (l m : List Dot) → Spaced D l → Spaced D m → Some l → Some m → Gap D (last_of l) (first_of m) → Spaced D (l ++ m)
+spaced-append D [] m s t sl sm g = elim sl [ ]
+spaced-append D (d ∷ []) [] s t sl sm g = elim sm [ ]
 spaced-append D (d ∷ []) (f ∷ m) s t sl sm g = (g, t)
 spaced-append D (d ∷ e ∷ l) m s t sl sm g = (s.0, spaced-append D (e ∷ l) m s.1 t some sm g)
 
@@ -113,6 +115,7 @@ module _ (D : Distance) (g : Dot → Dot) (keeps : (d e : Dot) → Gap D d e →
   some-moved = all_map (map g) Some Some one
     where
       one : (x : List Dot) → Some x → Some (map g x)
+      one [] s = elim s [ ]
       one (e ∷ x) s = some
 
   spaced-moved : (xs : List (List Dot)) → All (Spaced D) xs → All (Spaced D) (map (map g) xs)

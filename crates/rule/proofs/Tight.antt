@@ -55,8 +55,8 @@ record_node a b D row v f g =
       pair_count-append a b (record_onto D none f) (measured D.need row v (draw D f)),
     )
 
-record_part : (a b : ℕ) (D : Spacing) (row : Drawing) {v : ℕ} {f g h : Forest} → Part (node v f g) h → pair_count a b (record_onto D none f) ≤ pair_count a b (record_onto D row h)
-record_part a b D row {v} {f} {g} whole = omega (arith, record_node a b D row v f g)
+record_part : (a b : ℕ) (D : Spacing) {v : ℕ} {f g : Forest} (row : Drawing) {h : Forest} → Part (node v f g) h → pair_count a b (record_onto D none f) ≤ pair_count a b (record_onto D row h)
+record_part a b D {v} {f} {g} row whole = omega (arith, record_node a b D row v f g)
 record_part a b D row (in_children {v = u} {f = f} {h = g} p) = omega (arith, record_node a b D row u f g, record_part a b D none p)
 record_part a b D row (in_siblings {v = u} {f = f} {h = g} p) = omega (arith, record_node a b D row u f g, record_part a b D (join D row u (draw D f)) p)
 

@@ -78,7 +78,7 @@ shortfall-enough d a b moved =
 pub walk-seams : {D : Distance} {j c moved : ℕ} (xs ys : List (List Dot)) {m : ℕ → ℕ} {t extra : ℕ} → Walking D j c moved xs ys m t extra → Seams D extra m t xs ys
 walk-seams [] ys W = tt
 walk-seams (x ∷ xs) [] W = tt
-walk-seams {D = D} {moved = moved} (x ∷ xs) (y ∷ ys) {m} {t} {extra} W =
+walk-seams {D = D} {c = c} {moved = moved} (x ∷ xs) (y ∷ ys) {m} {t} {extra} W =
     let d = D (last_of x).node (first_of y).node in (
       omega (
         arith,
@@ -90,5 +90,5 @@ walk-seams {D = D} {moved = moved} (x ∷ xs) (y ∷ ys) {m} {t} {extra} W =
         parts_add (first_of y).place (pos (moved + (met D moved x y).amount)),
         parts_add (first_of y).place (pos t),
       ),
-      walk-seams xs ys (walk-on W),
+      walk-seams {c = (last_of x).child} xs ys (walk-on W),
     )

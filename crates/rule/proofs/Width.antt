@@ -9,11 +9,10 @@ use native.Mathlib.Nat.{not-suc-le-zero, le_refl}
 use native.Mathlib.Omega.{arith}
 use lib.IntN.{ℤ, pos, ◌+ℤ◌, ◌-ℤ◌}
 use Rattle.distance.specs.Needed.{Distance}
-use Rattle.tree.specs.Forest.{node}
 use Rattle.tree.specs.Levels.{beside}
 use Rattle.tree.proofs.Counting.{below_or_not}
 use Rattle.rule.specs.Drawing.{Drawing, none, at, last_place, middle, Dot, dot, dots, row_dots}
-use Rattle.rule.specs.Join.{above0, alone, join}
+use Rattle.rule.specs.Join.{above0, alone}
 use Rattle.rule.proofs.Signed.{below0, parts_add, parts_sub, parts_eq, AtMost}
 use Rattle.rule.proofs.Moving.{shift_by, move_by, settle, dots-row}
 use Rattle.rule.proofs.OnLevel.{OnLevel, top, down, on-left, on-right, on-cases, on-map, on-moved, on_some}

@@ -27,7 +27,7 @@ pub data Has (v : ℕ) (b : Drawing) : Drawing → Type 0 where
   below : {u x : ℕ} {d after : Drawing} → Has v b d → Has v b (at u x d after)
   beyond : {u x : ℕ} {d after : Drawing} → Has v b after → Has v b (at u x d after)
 
-has_spread : (j : ℕ) (ms : List Meeting) (p : ℕ) {v : ℕ} {b d : Drawing} → Has v b d → Has v b (spread j ms p d)
+has_spread : {v : ℕ} {b : Drawing} (j : ℕ) (ms : List Meeting) (p : ℕ) {d : Drawing} → Has v b d → Has v b (spread j ms p d)
 has_spread j ms p here = here
 has_spread j ms p (below h) = below h
 has_spread j ms p (beyond h) = beyond (has_spread j ms (p + 1) h)
@@ -44,14 +44,14 @@ has_right (at u x under after) h = beyond (has_right after h)
 has_draw_onto : (D : Spacing) {v : ℕ} {b row : Drawing} (f : Forest) → Has v b row → Has v b (draw_onto D row f)
 has_draw_onto D nil h = h
 has_draw_onto D {row = row} (node u f g) h =
-    has_draw_onto D g (has_left (alone u (settled D row u (draw_onto D none f)) (draw_onto D none f))
+    has_draw_onto D {row = join D row u (draw_onto D none f)} g (has_left (alone u (settled D row u (draw_onto D none f)) (draw_onto D none f))
     (has_spread (width row) (meetings D.need row u (draw_onto D none f)) 0 h))
 
 -- what is drawn below a node of a forest is the drawing of the node's children
-pub has_draw : (D : Spacing) (row : Drawing) {v : ℕ} {a b f : Forest} → Part (node v a b) f → Has v (draw D a) (draw_onto D row f)
-has_draw D row {v} {a} {b} whole =
+pub has_draw : (D : Spacing) {v : ℕ} {a b : Forest} (row : Drawing) {f : Forest} → Part (node v a b) f → Has v (draw D a) (draw_onto D row f)
+has_draw D {v} {a} {b} row whole =
     has_draw_onto D b (has_right (spread (width row) (meetings D.need row v (draw D a)) 0 row) here)
-has_draw D row {v} {a} (in_children {v = u} {f = f} {h = g} p) =
+has_draw D {v} {a} row (in_children {v = u} {f = f} {h = g} p) =
     has_draw_onto D g (has_right (spread (width row) (meetings D.need row u (draw D f)) 0 row) (below (has_draw D none p)))
 has_draw D row (in_siblings {v = u} {f = f} {h = g} p) = has_draw D (join D row u (draw D f)) p
 
@@ -62,15 +62,15 @@ pub record Stands (i v : ℕ) (b : Drawing) (ls : List (List Dot)) : Type 0 wher
   pub root : OnLevel (dot i v place) level ls
   pub under : (e : Dot) (r : ℕ) → OnLevel e r (dots i (place -ℤ pos (middle b)) b) → OnLevel e (suc (level + r)) ls
 
-pub has_stands : (i : ℕ) (o : ℤ) {v : ℕ} {b d : Drawing} → Has v b d → Stands i v b (dots i o d)
-has_stands i o {v} {b} (here {x = x} {after = after}) =
+pub has_stands : (i : ℕ) {v : ℕ} {b : Drawing} (o : ℤ) {d : Drawing} → Has v b d → Stands i v b (dots i o d)
+has_stands i {v} {b} o (here {x = x} {after = after}) =
     record {
       level = 0;
       place = o +ℤ pos x;
       root = on-left (dots i o after) (top (Memᴰ.head refl));
       under = λ e r h. subst (λ (k : ℕ). OnLevel e (suc k) (dots i o (at v x b after))) (sym (zero-add r)) (on-left (dots i o after) (down h));
     }
-has_stands i o {v} {b} (below {u = u} {x = x} {d = d} {after = after} h) =
+has_stands i {v} {b} o (below {u = u} {x = x} {d = d} {after = after} h) =
     let S = has_stands i (o +ℤ pos x -ℤ pos (middle d)) h in
     record {
       level = suc S.level;
