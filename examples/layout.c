@@ -2,7 +2,7 @@
  * Lays a tree out and prints each node's number, level and place, and then the pairs of neighbours
  * in reading order. From the repository's root:
  *
- *     gcc -std=c11 -Wall -Wextra -Werror -Iinclude examples/layout.c target/staticlib/libexports.a -o layout
+ *     gcc -std=c11 -Wall -Wextra -Werror -Iinclude examples/layout.c crates/exports/out/libexports.a -o layout
  */
 
 #include "hiwenoka.h"

@@ -1,7 +1,7 @@
 // Lays a tree out and prints each node's number, level and place, and then the pairs of neighbours
 // in reading order. From the repository's root:
 //
-//     rustc --edition 2021 -D warnings examples/layout.rs -C link-arg=target/staticlib/libexports.a -o layout
+//     rustc --edition 2021 -D warnings examples/layout.rs -C link-arg=crates/exports/out/libexports.a -o layout
 
 const NONE: u16 = 65_535;
 const N: usize = 5;

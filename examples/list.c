@@ -1,4 +1,4 @@
-/* gcc -std=c11 -Wall -Wextra -Werror -Iinclude examples/list.c target/staticlib/libexports.a -o list */
+/* gcc -std=c11 -Wall -Wextra -Werror -Iinclude examples/list.c crates/exports/out/libexports.a -o list */
 #include "hiwenoka.h"
 #include <stdio.h>
 

@@ -1,4 +1,4 @@
-// rustc --edition 2021 -D warnings examples/list.rs -C link-arg=target/staticlib/libexports.a -o list
+// rustc --edition 2021 -D warnings examples/list.rs -C link-arg=crates/exports/out/libexports.a -o list
 use std::io::{self, Read, Write};
 
 extern "C" {

@@ -1,4 +1,4 @@
-/* gcc -std=c11 -Wall -Wextra -Werror -Iinclude examples/newick.c target/staticlib/libexports.a -o newick */
+/* gcc -std=c11 -Wall -Wextra -Werror -Iinclude examples/newick.c crates/exports/out/libexports.a -o newick */
 /* Reads a tree from a Newick text, stores it as a sheet file and prints the file's listing. */
 #include "hiwenoka.h"
 #include <stdio.h>

@@ -1,4 +1,4 @@
-// rustc --edition 2021 -D warnings examples/newick.rs -C link-arg=target/staticlib/libexports.a -o newick
+// rustc --edition 2021 -D warnings examples/newick.rs -C link-arg=crates/exports/out/libexports.a -o newick
 // Reads a tree from a Newick text, stores it as a sheet file and prints the file's listing.
 use std::io::{self, Read, Write};
 

@@ -3,7 +3,7 @@
  * from the middle, across and down; then the same for a view that is refused. From the repository's
  * root:
  *
- *     gcc -std=c11 -Wall -Wextra -Werror -Iinclude examples/screen.c target/staticlib/libexports.a -o screen
+ *     gcc -std=c11 -Wall -Wextra -Werror -Iinclude examples/screen.c crates/exports/out/libexports.a -o screen
  */
 
 #include "hiwenoka.h"

@@ -2,7 +2,7 @@
 // from the middle, across and down; then the same for a view that is refused. From the repository's
 // root:
 //
-//     rustc --edition 2021 -D warnings examples/screen.rs -C link-arg=target/staticlib/libexports.a -o screen
+//     rustc --edition 2021 -D warnings examples/screen.rs -C link-arg=crates/exports/out/libexports.a -o screen
 
 const NONE: u16 = 65_535;
 const N: usize = 5;

@@ -2,7 +2,7 @@
  * Lists all families of five tapes, a line for each: its place in the list and its table, where -
  * means none. From the repository's root:
  *
- *     gcc -std=c11 -Wall -Wextra -Werror -Iinclude examples/small_trees.c target/staticlib/libexports.a -o small_trees
+ *     gcc -std=c11 -Wall -Wextra -Werror -Iinclude examples/small_trees.c crates/exports/out/libexports.a -o small_trees
  */
 
 #include "hiwenoka.h"

@@ -1,7 +1,7 @@
 // Lists all families of five tapes, a line for each: its place in the list and its table, where -
 // means none. From the repository's root:
 //
-//     rustc --edition 2021 -D warnings examples/small_trees.rs -C link-arg=target/staticlib/libexports.a -o small_trees
+//     rustc --edition 2021 -D warnings examples/small_trees.rs -C link-arg=crates/exports/out/libexports.a -o small_trees
 
 const NONE: u16 = 65_535;
 const N: u16 = 5;

@@ -3,7 +3,7 @@
  * the first its place in the list and its table, where - means none. Then the same with a dot moved.
  * From the repository's root:
  *
- *     gcc -std=c11 -Wall -Wextra -Werror -Iinclude examples/trees_of_dots.c target/staticlib/libexports.a -o trees_of_dots
+ *     gcc -std=c11 -Wall -Wextra -Werror -Iinclude examples/trees_of_dots.c crates/exports/out/libexports.a -o trees_of_dots
  */
 
 #include "hiwenoka.h"

@@ -2,7 +2,7 @@
 // the first its place in the list and its table, where - means none. Then the same with a dot moved.
 // From the repository's root:
 //
-//     rustc --edition 2021 -D warnings examples/trees_of_dots.rs -C link-arg=target/staticlib/libexports.a -o trees_of_dots
+//     rustc --edition 2021 -D warnings examples/trees_of_dots.rs -C link-arg=crates/exports/out/libexports.a -o trees_of_dots
 
 const NONE: u16 = 65_535;
 const N: u16 = 7;

@@ -3,7 +3,7 @@
  * each node's number, level and place: first without an extra space, where the four leaves stand
  * evenly, and then with one of 6, which parts the two families. From the repository's root:
  *
- *     gcc -std=c11 -Wall -Wextra -Werror -Iinclude examples/treetex.c target/staticlib/libexports.a -o treetex
+ *     gcc -std=c11 -Wall -Wextra -Werror -Iinclude examples/treetex.c crates/exports/out/libexports.a -o treetex
  */
 
 #include "hiwenoka.h"

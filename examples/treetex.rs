@@ -2,7 +2,7 @@
 // each node's number, level and place: first without an extra space, where the four leaves stand
 // evenly, and then with one of 6, which parts the two families. From the repository's root:
 //
-//     rustc --edition 2021 -D warnings examples/treetex.rs -C link-arg=target/staticlib/libexports.a -o treetex
+//     rustc --edition 2021 -D warnings examples/treetex.rs -C link-arg=crates/exports/out/libexports.a -o treetex
 
 const NONE: u16 = 65_535;
 const N: usize = 7;

@@ -2,7 +2,7 @@
  * Stores a tree, its tape numbers and its half-widths as a sheet file, reads the file back and
  * prints its listing. From the repository's root:
  *
- *     gcc -std=c11 -Wall -Wextra -Werror -Iinclude examples/write.c target/staticlib/libexports.a -o write
+ *     gcc -std=c11 -Wall -Wextra -Werror -Iinclude examples/write.c crates/exports/out/libexports.a -o write
  */
 
 #include "hiwenoka.h"

@@ -1,7 +1,7 @@
 // Stores a tree, its tape numbers and its half-widths as a sheet file, reads the file back and
 // prints its listing. From the repository's root:
 //
-//     rustc --edition 2021 -D warnings examples/write.rs -C link-arg=target/staticlib/libexports.a -o write
+//     rustc --edition 2021 -D warnings examples/write.rs -C link-arg=crates/exports/out/libexports.a -o write
 
 use std::io::{self, Write};
 

@@ -6,7 +6,7 @@
 # dots. Only the calls themselves count. The part `time` takes the time of a layout beside the pointer
 # method's and, where Debian's node-d3-hierarchy is installed, that of d3's tree. The part `listing`
 # does both for the whole way from a sheet's bytes to its listing; it needs the program `listing` too,
-# from ../target/bin or the folder that HIWENOKA_BIN_DIR names.
+# from ../crates/listing/out or the folder that HIWENOKA_BIN_DIR names.
 #
 # Usage: bench.sh [table] [sheet] [newick] [screen] [small_trees] [trees_of_dots] [layout] [treetex]
 # [time] [listing]; all ten if none is named.
@@ -271,7 +271,7 @@ for part in "$@"; do
         measure bench_listing plain_by_hand hand >"$results/hand"
         "$programs/bench_listing" sheets "$results"
         while read -r _ shape _; do
-            instructions="$(count_program "${HIWENOKA_BIN_DIR:-../target/bin}/listing" "$results/$shape.sheet")"
+            instructions="$(count_program "${HIWENOKA_BIN_DIR:-../crates/listing/out}/listing" "$results/$shape.sheet")"
             echo "$shape $instructions"
         done <"$results/library" >"$results/program"
         "$programs/bench_listing" time >"$results/time"

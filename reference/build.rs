@@ -1,6 +1,6 @@
 //! Links the library's archive into the comparisons and the benchmarks that call it.
 //!
-//! The archive is `../target/staticlib/libexports.a`; the environment variable `HIWENOKA_LIB_DIR`
+//! The archive is `../crates/exports/out/libexports.a`; the environment variable `HIWENOKA_LIB_DIR`
 //! names another folder. The package's own library and its unit tests do not need it. Tests that
 //! link it into a program of their own have its path as `HIWENOKA_ARCHIVE`.
 
@@ -13,7 +13,7 @@ fn main() {
         Some(folder) => PathBuf::from(folder),
         None => {
             let package = env::var_os("CARGO_MANIFEST_DIR").expect("cargo names the package");
-            PathBuf::from(package).join("../target/staticlib")
+            PathBuf::from(package).join("../crates/exports/out")
         }
     };
     let archive = folder.join("libexports.a");

@@ -21,12 +21,12 @@ pub struct Ended {
     pub printed: Vec<u8>,
 }
 
-/// The path of a program of the repository: in `../target/bin`, or in the folder that the
-/// environment variable `HIWENOKA_BIN_DIR` names.
+/// The path of a program of the repository: in the folder `out` of its crate, or in the folder that
+/// the environment variable `HIWENOKA_BIN_DIR` names.
 pub fn path_of(name: &str) -> PathBuf {
     let folder = match env::var_os("HIWENOKA_BIN_DIR") {
         Some(folder) => PathBuf::from(folder),
-        None => Path::new(env!("CARGO_MANIFEST_DIR")).join("../target/bin"),
+        None => Path::new(env!("CARGO_MANIFEST_DIR")).join(format!("../crates/{name}/out")),
     };
     let path = folder.join(name);
     assert!(path.is_file(), "there is no program {}", path.display());

@@ -1,13 +1,34 @@
 // Lists the sheet file on standard input. What is printed is proved of `render`; here bytes are only moved.
-use libc::{STDERR_FILENO, STDIN_FILENO, STDOUT_FILENO};
+#![tactic(auto)]
 
-fn main() {
+ghost use Rattle.std.specs.Prelude.{◌≤◌, length};
+
+use std::io;
+use std::io::{Print, Read};
+
+// Reads until `buf` is full, the input ends or a read fails, and gives how many bytes it put at the start of `buf`.
+fn read_full(input: &mut impl Read, buf: &mut [u8]) -> usize
+    ensures { result ≤ length buf.new }
+{
+    let mut done = 0;
+    while done < buf.len() {
+        match input.read(&mut buf[done..]) {
+            Ok(0) | Err(_) => break,
+            Ok(count) => done += count,
+        }
+    }
+    done
+}
+
+fn main(rt: HostRuntime) -> io::Result<()> {
     // One byte more than the longest file, so that a longer input is seen to be longer.
     let mut file = [0u8; 11265];
-    let length = io::read_full(STDIN_FILENO, &mut file);
+    let length = read_full(&mut rt.stdin(), &mut file);
     let mut text = [0u8; 41024];
     let end = render::list_sheet(&file[..length], &mut text);
-    if !io::write_all(STDOUT_FILENO, &text[..end]) {
-        io::write_all(STDERR_FILENO, b"listing: the output could not be written\n");
+    let printed = rt.write_all(&text[..end]);
+    if printed.is_err() {
+        eprintln!(rt; "listing: the output could not be written")?;
     }
+    printed
 }

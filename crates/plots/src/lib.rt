@@ -1,4 +1,6 @@
 // The dots of a plot: what is right of them, how many stand on each level, and whether a point is among them.
+#![tactic(auto)]
+
 ghost use Rattle.std.specs.Prelude.{◌≡◌, ◌*◌, ◌≤◌, length, false, not, ◌||◌};
 ghost use Rattle.plots.specs.Points.{point, points_of, comes_before, same_point, is_among, all_among};
 ghost use Rattle.plots.specs.Dots.{level_wrong, dots_wrong, points_at, Profile};

@@ -1,8 +1,10 @@
 // The second walk, from the first position to the last: places and levels by node number, the extremes, and the record.
+#![tactic(auto)]
+
 ghost use Rattle.std.specs.Prelude.{◌≡◌, ℕ, ◌*◌, ◌≤◌, ◌<◌, pos};
 ghost use Rattle.distance.specs.Needed.{needed};
 ghost use Rattle.rule.specs.Join.{spaced};
-ghost use Rattle.rule.specs.Result as result;
+ghost use Rattle.rule.specs.Result as drawing;
 ghost use Rattle.level_order.specs.Fields as fields;
 ghost use Rattle.level_order.specs.Numbered.{Accepted};
 ghost use Rattle.second_walk.specs.SecondWalk.{Ready, Descends, descended, Writes, Written, Pairs, Paired, Lengths};
@@ -21,7 +23,7 @@ pub struct Settled {
 // The place and the level of position p, from those of its parent.
 fn descend(work: &mut [i32], p: usize)
     requires { Descends work.old p }
-    ensures* { λ r. ⌜ ((q : ℕ) → fields.get work.old fields.PARENT p ≡ pos q → work.new ≡ descended work.old p q) ⌝ }
+    ensures { (q : ℕ) → fields.get work.old fields.PARENT p ≡ pos q → work.new ≡ descended work.old p q }
 {
     let q = field::get(work, p, field::PARENT) as usize;
     let place = field::get(work, q, field::PLACE) + field::get(work, p, field::PLACE);
@@ -33,7 +35,7 @@ fn descend(work: &mut [i32], p: usize)
 // Writes the place and the level of position p by its node's number.
 fn write(work: &[i32], p: usize, places: &mut [i32], levels: &mut [u16])
     requires { Writes work.now p places.old levels.old }
-    ensures* { λ r. ⌜ Written work.now p places.old levels.old places.new levels.new ⌝ }
+    ensures { Written work.now p places.old levels.old places.new levels.new }
 {
     let v = field::get(work, p, field::NODE) as usize;
     places[v] = field::get(work, p, field::PLACE);
@@ -43,7 +45,7 @@ fn write(work: &[i32], p: usize, places: &mut [i32], levels: &mut [u16])
 // The entry of the record at which pair number k begins.
 fn entry(k: usize) -> usize
     requires { k < 1024 }
-    ensures* { λ r. ⌜ r ≡ 2 * k ⌝ }
+    ensures { result ≡ 2 * k }
 {
     2 * k
 }
@@ -51,7 +53,7 @@ fn entry(k: usize) -> usize
 // Writes the pair of two positions that follow each other, if they have one level, and says how many pairs there are now.
 fn pair(work: &[i32], left: usize, right: usize, measured: &mut [u16], pairs: usize) -> usize
     requires { Pairs work.now left right measured.old pairs }
-    ensures* { λ r. ⌜ Paired work.now left right measured.old pairs r measured.new ⌝ }
+    ensures { Paired work.now left right measured.old pairs result measured.new }
 {
     let left_level = field::get(work, left, field::LEVEL) as u16;
     let right_level = field::get(work, right, field::LEVEL) as u16;
@@ -65,13 +67,13 @@ fn pair(work: &[i32], left: usize, right: usize, measured: &mut [u16], pairs: us
 }
 
 fn lesser(x: i32, y: i32) -> i32
-    ensures* { λ r. ⌜ r ≡ result.lesser x y ⌝ }
+    ensures { result ≡ drawing.lesser x y }
 {
     if x <= y { x } else { y }
 }
 
 fn greater(x: i32, y: i32) -> i32
-    ensures* { λ r. ⌜ r ≡ result.greater x y ⌝ }
+    ensures { result ≡ drawing.greater x y }
 {
     if x <= y { y } else { x }
 }
@@ -90,7 +92,7 @@ pub fn second_walk(
     requires accepted { (Accepted table.now separation widths.now) × (extra ≤ 1024) }
     requires lengths { Lengths table.now places.old levels.old measured.old }
     requires ready { Ready (spaced (needed separation widths.now) extra) table.now work.old }
-    ensures* { λ r. ⌜ walk.Settled table.now (spaced (needed separation widths.now) extra) places.new levels.new measured.old measured.new work.old work.new r.levels r.least r.greatest r.pairs ⌝ }
+    ensures { walk.Settled table.now (spaced (needed separation widths.now) extra) places.new levels.new measured.old measured.new work.old work.new result.levels result.least result.greatest result.pairs }
 {
     let n = table.len() / 2;
     places[0] = 0;

@@ -1,5 +1,7 @@
 // The reader of sheet files. The bytes are judged by the conditions 9, 10, 11, 12 and 7; then the rows are read into a table
 // slice, a tape slice and a half-width slice.
+#![tactic(auto)]
+
 ghost use Rattle.sheet.specs.Read.{SheetRead};
 
 mod conditions;
@@ -13,7 +15,7 @@ use header::{nodes_of, separation_of};
 use rows::read_rows;
 
 // What reading a sheet gives: 0 with n and D, or the number of a refusal with 0 and 0.
-#[derive(Drop)]
+#[derive(Clone, Copy)]
 pub struct Sheet {
     pub number: u16,
     pub nodes: u16,

@@ -6,7 +6,7 @@ ghost use Rattle.sheet.specs.Walk.{OnRow};
 use super::layout::{FIRST_BLOCK, FIRST_WORD, LAST_ROW_WORD, ROW_WORDS};
 
 // Where a node's row stands in a file: its block, and its first word there.
-#[derive(Drop)]
+#[derive(Clone, Copy)]
 pub struct RowPlace {
     pub node: usize,
     pub block: usize,

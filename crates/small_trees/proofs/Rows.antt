@@ -10,7 +10,7 @@ use native.Mathlib.Omega.{arith}
 use lib.ListN.{length, get_or, set, drop, length-append, length-set, replicate, get_or-replicate, drop_of_length-le}
 use lib.Seq.{sets, length-sets, get_or_at, drop-cons, drop-length, get_or-set_same, get_or-set_other, drop-set-lt}
 use Rattle.tree.specs.Table.{none}
-use Rattle.tree.specs.Forest.{node, size, entry, table_of}
+use Rattle.tree.specs.Forest.{size, entry, table_of}
 use Rattle.tree.specs.Operations.{number_from}
 use Rattle.tree.proofs.Reading.{Agrees}
 use Rattle.tree.proofs.Stands.{Numbers}

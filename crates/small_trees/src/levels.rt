@@ -24,7 +24,7 @@ pub const WAYS: [u16; 64] = [
 ];
 
 // A next level, and a place among the ways to go on behind it.
-#[derive(Drop)]
+#[derive(Clone, Copy)]
 pub struct Branch {
     pub level: usize,
     pub place: u16,

@@ -1,4 +1,6 @@
 // All ordered trees of 1 to 8 nodes: the tree at a place of the list of them.
+#![tactic(auto)]
+
 ghost use Rattle.std.specs.Prelude.{◌≡◌, ◌*◌, length};
 ghost use Rattle.tree.specs.Forest.{table_of};
 ghost use Rattle.small_trees.specs.SmallTrees.{tree_at, refusal, SmallTree};
@@ -13,6 +15,7 @@ use links::link;
 const MOST_NODES: u16 = 8;
 
 // The number of a call, by the output's length.
+#[tactic(auto, using(crate::proofs::Numbers::number_20))]
 fn judge(counts: &[u16], nodes: u16, place: u16, table: usize) -> u16
     requires { Ways counts.now }
     ensures { result ≡ refusal nodes place table }

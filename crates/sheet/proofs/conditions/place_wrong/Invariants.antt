@@ -1,0 +1,11 @@
+-- `conditions::place_wrong` says whether a first word is not its block's place. The invariant: the blocks passed hold. Assumes nothing.
+use Prim.Native.Nat.{◌-◌, ◌≤◌}
+use Rattle.blocks.specs.Block.{block_count, in_place}
+use Rattle.sheet.proofs.Blocks.{Passed}
+use Rattle.sheet.proofs.conditions.place_wrong.Given as goal
+
+abbrev pub invariant-loop-place : goal.invariant-loop-place
+invariant-loop-place l = (l.place ≤ block_count l.file) × Passed in_place l.file l.place
+
+abbrev pub decreases-loop-place : goal.decreases-loop-place
+decreases-loop-place l = block_count l.file - l.place

@@ -1,0 +1,9 @@
+-- The loop from the last node to the first. Assumes nothing.
+use Rattle.small_trees.proofs.Rows.{Linking}
+use Rattle.small_trees.proofs.links.link.Given as goal
+
+abbrev pub invariant-loop-node : goal.invariant-loop-node
+invariant-loop-node l = Linking l.levels l.table l.next l.node
+
+abbrev pub decreases-loop-node : goal.decreases-loop-node
+decreases-loop-node l = l.node
