@@ -1,4 +1,6 @@
 // Draws every family, from the last position to the first.
+#![tactic(auto)]
+
 ghost use Rattle.std.specs.Prelude.{◌-◌, ◌<◌};
 ghost use Rattle.tree.specs.Forest.{tree_of};
 ghost use Rattle.tree.specs.Table.{nodes};
