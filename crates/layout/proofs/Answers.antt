@@ -20,7 +20,7 @@ use Rattle.distance.proofs.Separation.{good-separation}
 use Rattle.distance.proofs.HalfWidths.{needed-at_most, first-widths, first-narrow, good-widths}
 use Rattle.tree.specs.Numbers.{up_to}
 use Rattle.tree.specs.Table.{nodes}
-use Rattle.tree.specs.Levels.{level, neighbours, level_count}
+use Rattle.tree.specs.Levels.{level, neighbours}
 use Rattle.tree.specs.WellFormed.{table_number}
 use Rattle.tree.proofs.Number.{table-refused, table-passed, table_said}
 use Rattle.refusal.proofs.Truth.{or-false-left, or-false-right, or-false, or-true}

@@ -1,4 +1,6 @@
 // The linear engine: where the nodes of a tree table stand, in time proportional to their number.
+#![tactic(auto)]
+
 ghost use Rattle.std.specs.Prelude.{◌≡◌, pos};
 ghost use Rattle.refusal.specs.First.{first};
 ghost use Rattle.distance.specs.Needed.{needed};
