@@ -1,5 +1,7 @@
 // The writer of sheet files. The table, D and the slices are judged by the conditions 1 to 5, 14, 6, 13, 17 and 7; then the file is written
 // block by block.
+#![tactic(auto)]
+
 ghost use Rattle.std.specs.Prelude.{◌≡◌, ◌*◌, ◌≤◌, length};
 ghost use Rattle.tree.specs.Table.{nodes};
 ghost use Rattle.tree.specs.WellFormed.{table_number};
