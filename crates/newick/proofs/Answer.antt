@@ -1,13 +1,13 @@
 -- The answer: the number by what the code tested, and the promise for a refused and for an accepted text. Assumes nothing.
 use mathlib.Core.Path.{◌≡◌, refl, sym, ap, ◌∙◌, subst}
-use Prim.Native.Nat.{ℕ, ◌+◌, ◌*◌, ◌≤◌, ◌<◌}
+use Prim.Native.Nat.{ℕ, ◌*◌, ◌≤◌, ◌<◌}
 use native.Mathlib.Omega.{arith}
 use mathlib.Core.List.{List, [], ◌∷◌, ◌++◌, append-nil}
 use lib.ListN.{length}
 use lib.Dec.{eqb, ltb}
 use borrow.Author.Tests.{eq-eqb, ne_eqb, eqb-false, lt-ltb, le-ltb, ltb-false}
 use Rattle.refusal.specs.First.{◌⇐◌}
-use Rattle.refusal.specs.After.{after, overwrite}
+use Rattle.refusal.specs.After.{overwrite}
 use Rattle.refusal.proofs.After.{granted-accepted, granted-refused, after-accepted, after-refused, sets_start}
 use Rattle.refusal.proofs.Laws.{first-none}
 use Rattle.refusal.proofs.Truth.{or-false-left, or-false-right}

@@ -6,7 +6,7 @@ use native.Mathlib.Omega.{arith}
 use mathlib.Core.List.{List, [], ◌∷◌, ◌++◌, append_assoc, append-nil}
 use lib.ListN.{length, get_or, length-append}
 use lib.Seq.{get_or_at}
-use Rattle.tree.specs.Table.{none, nodes}
+use Rattle.tree.specs.Table.{none}
 use Rattle.tree.specs.Numbers.{up_to}
 use Rattle.tree.specs.Forest.{Forest, nil, node, size, entry, preorder, tree_of, table_of}
 use Rattle.tree.specs.WellFormed.{table_number}

@@ -7,7 +7,7 @@ use mathlib.Core.Bool.{Bool, true, false}
 use mathlib.Core.List.{List, [], ◌∷◌, ◌++◌, append_assoc, append-nil}
 use lib.Dec.{eqb, leb}
 use borrow.Author.Tests.{eqb-true, eqb-false, leb-true}
-use Rattle.lines.specs.Decimal.{zero_byte, digit, decimal}
+use Rattle.lines.specs.Decimal.{zero_byte, decimal}
 use Rattle.tree.specs.Forest.{Forest, nil, node, join}
 use Rattle.tree.proofs.Counting.{All}
 use Rattle.newick.specs.Text.{opening, closing, comma, semicolon, most_label, Labels, subtree_text, further, list_text, IsText}

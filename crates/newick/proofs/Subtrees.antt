@@ -8,7 +8,7 @@ use mathlib.Core.List.{List, [], ◌∷◌, ◌++◌, append_assoc, append-nil}
 use lib.ListN.{length, get_or, drop, length-append}
 use borrow.Author.Tests.{eqb-false}
 use lib.Seq.{sets}
-use Rattle.lines.specs.Decimal.{digit, decimal}
+use Rattle.lines.specs.Decimal.{decimal}
 use Rattle.lines.proofs.ReadBack.{some-digit}
 use Rattle.tree.proofs.Counting.{All}
 use Rattle.tree.specs.Table.{none}

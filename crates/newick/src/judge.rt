@@ -8,7 +8,7 @@ use super::label::is_digit;
 const MOST_LABEL: u64 = 4294967295;
 
 // What the bytes so far leave: how many brackets are open, how many labels have begun, and what may come next.
-#[derive(Drop)]
+#[derive(Clone, Copy)]
 pub enum Scan {
     // a subtree is due
     Due {

@@ -6,12 +6,13 @@ ghost use Rattle.newick.specs.Read.{words};
 ghost use Rattle.newick.specs.Steps.{leading, label_at, LabelHere};
 
 // A number, and the place after its digits.
-#[derive(Drop)]
+#[derive(Clone, Copy)]
 struct Label {
     value: u32,
     end: usize,
 }
 
+#[tactic(auto, unfolding(crate::specs::Reading::is_digit))]
 pub fn is_digit(byte: u8) -> bool
     ensures { result ≡ is_digit byte }
 {

@@ -1,5 +1,7 @@
 // The reader of Newick text. A first pass without recursion judges the text and counts its nodes; only a text that is known to be
 // right is then read into a table slice and a tape slice.
+#![tactic(auto)]
+
 ghost use Rattle.std.specs.Prelude.{◌≡◌};
 ghost use Rattle.newick.specs.Read.{NewickRead};
 ghost use Rattle.newick.specs.Steps.{tree_number};
@@ -17,13 +19,14 @@ const MOST_BYTES: usize = 16384;
 const MOST_NODES: usize = 1024;
 
 // What reading a text gives: 0 with the count of nodes, or the number of a refusal with 0.
-#[derive(Drop)]
+#[derive(Clone, Copy)]
 pub struct Newick {
     pub number: u16,
     pub nodes: u16,
 }
 
 // The number of a text that is not too long, by its count of nodes and the slices' lengths.
+#[tactic(auto, unfolding(crate::specs::Steps::tree_number))]
 fn refusal_of(nodes: usize, table: usize, tapes: usize) -> u16
     ensures { result ≡ tree_number nodes table tapes }
 {

@@ -8,7 +8,7 @@ use super::label::{read_label, store_pair};
 const NONE: u16 = 65535;
 
 // Where reading has come to: the place in the text, and the number of the next node.
-#[derive(Drop)]
+#[derive(Clone, Copy)]
 pub struct Reached {
     pub at: usize,
     pub node: usize,

@@ -7,13 +7,11 @@ use Rattle.small_trees.proofs.levels.choose.Goals as goal
 
 pub loop-level-init : goal.loop-level-init
 loop-level-init c =
-    let s = c.before.before in
-    count-start s.args.more s.args.behind s.args.place s.requires.choice
+    count-start c.args.more c.args.behind c.args.place c.requires.choice
 
 pub ways-count-requires : goal.ways-count-requires
 ways-count-requires c =
-    let s = c.before.before.before.before in
-    record { ways = s.requires.ways; behind_bound = omega (arith, s.requires.choice.few, c.loop-level-test.true) }
+    record { ways = c.requires.ways; behind_bound = omega (arith, c.requires.choice.few, c.loop-level-test.true) }
 
 pub overflow_add-level : goal.overflow_add-level
 overflow_add-level c = omega (arith, c.requires.choice.few, c.loop-level-test.true)
@@ -23,20 +21,17 @@ loop-level-smaller c = omega (arith, c.loop-level-test.true)
 
 pub loop-level-preserved : goal.loop-level-preserved
 loop-level-preserved c =
-    let head = c.before.before.before.before in
-    let a = head.args in
-    subst (λ (w : ℕ). Counted a.more a.behind a.place (head.loop-level.level + 1) (head.loop-level.rest - w)) (sym c.ways-count.ensures)
-    (count_next a.more a.behind a.place head.loop-level.level head.loop-level.rest head.loop-level.invariant (omega (arith, c.ways-count.ensures, c.if-rest-count.false)))
+    let a = c.args in
+    subst (λ (w : ℕ). Counted a.more a.behind a.place (c.loop-level.level + 1) (c.loop-level.rest - w)) (sym c.ways-count.ensures)
+    (count_next a.more a.behind a.place c.loop-level.level c.loop-level.rest c.loop-level.invariant (omega (arith, c.ways-count.ensures, c.if-rest-count.false)))
 
 pub returns-after-loop-level : goal.returns-after-loop-level
 returns-after-loop-level c =
-    let head = c.before.before in
-    let a = head.args in
-    chosen a.more a.behind a.place head.loop-level.level head.loop-level.rest head.loop-level.invariant
-    (last_within a.more a.behind a.place head.loop-level.level head.loop-level.rest head.loop-level.invariant (omega (arith, c.loop-level-test.false)))
+    let a = c.args in
+    chosen a.more a.behind a.place c.loop-level.level c.loop-level.rest c.loop-level.invariant
+    (last_within a.more a.behind a.place c.loop-level.level c.loop-level.rest c.loop-level.invariant (omega (arith, c.loop-level-test.false)))
 
 pub returns-then-rest-count : goal.returns-then-rest-count
 returns-then-rest-count c =
-    let head = c.before.before.before.before in
-    let a = head.args in
-    chosen a.more a.behind a.place head.loop-level.level head.loop-level.rest head.loop-level.invariant (omega (arith, c.ways-count.ensures, c.if-rest-count.true))
+    let a = c.args in
+    chosen a.more a.behind a.place c.loop-level.level c.loop-level.rest c.loop-level.invariant (omega (arith, c.ways-count.ensures, c.if-rest-count.true))

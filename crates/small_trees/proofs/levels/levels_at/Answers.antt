@@ -6,13 +6,11 @@ use Rattle.small_trees.proofs.levels.levels_at.Goals as goal
 
 pub bounds-levels-0 : goal.bounds-levels-0
 bounds-levels-0 c =
-    let s = c.before.before.before in
-    some_level s.args.place s.args.levels.now s.requires.in_list
+    some_level c.args.place c.args.levels.now c.requires.in_list
 
 pub loop-node-init : goal.loop-node-init
 loop-node-init c =
-    let s = c.before.before.before in
-    fill_start s.args.place s.args.levels.now s.requires.in_list
+    fill_start c.args.place c.args.levels.now c.requires.in_list
 
 pub overflow_sub-nodes : goal.overflow_sub-nodes
 overflow_sub-nodes c = omega (arith, c.loop-node-test.true)
@@ -22,8 +20,7 @@ overflow_sub-nodes-in-loop-node c = omega (arith, c.loop-node-test.true)
 
 pub choose-next-requires : goal.choose-next-requires
 choose-next-requires c =
-    let s = c.before.before.before.before.before in
-    let l = c.loop-node in record { ways = s.requires.ways; choice = fill_choice s.args.place (length s.args.levels.now) l.levels l.behind l.rest l.node l.invariant s.requires.in_list.few c.loop-node-test.true }
+    let l = c.loop-node in record { ways = c.requires.ways; choice = fill_choice c.args.place (length c.args.levels.now) l.levels l.behind l.rest l.node l.invariant c.requires.in_list.few c.loop-node-test.true }
 
 pub offset_bounds-levels-node : goal.offset_bounds-levels-node
 offset_bounds-levels-node c = omega (arith, c.loop-node-test.true, c.requires.in_list.few)
@@ -39,9 +36,8 @@ loop-node-smaller c = omega (arith, c.loop-node-test.true)
 
 pub loop-node-preserved : goal.loop-node-preserved
 loop-node-preserved c =
-    let s = c.before.before.before.before.before.before in
     let l = c.loop-node in
-    fill_next s.args.place (length s.args.levels.now) l.levels l.behind l.rest l.node l.invariant c.loop-node-test.true
+    fill_next c.args.place (length c.args.levels.now) l.levels l.behind l.rest l.node l.invariant c.loop-node-test.true
     c.choose-next.result c.choose-next.ensures
 
 pub shape_of-levels : goal.shape_of-levels
@@ -49,6 +45,5 @@ shape_of-levels c = c.loop-node.invariant.same
 
 pub returns : goal.returns
 returns c =
-    let s = c.before.before.before.before.before in
     let l = c.loop-node in
-    fill_end s.args.place (length s.args.levels.now) l.levels l.behind l.rest l.node l.invariant (omega (arith, c.loop-node-test.false))
+    fill_end c.args.place (length c.args.levels.now) l.levels l.behind l.rest l.node l.invariant (omega (arith, c.loop-node-test.false))

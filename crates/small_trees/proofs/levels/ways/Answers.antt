@@ -3,5 +3,4 @@ use Rattle.small_trees.proofs.levels.ways.Goals as goal
 
 pub returns : goal.returns
 returns c =
-    let s = c.before.before in
-    s.requires.ways.count s.args.more s.args.behind s.requires.behind_bound
+    c.requires.ways.count c.args.more c.args.behind c.requires.behind_bound

@@ -14,8 +14,7 @@ In-loop = lts.In-loop tie.the-claims reads.Pre reads.Post goal.the-invariant-loo
 
 pub loop-node-init : goal.loop-node-init
 loop-node-init c =
-    let s = c.before.before.before in
-    link_start s.args.levels.now s.args.table.now s.requires
+    link_start c.args.levels.now c.args.table.now c.requires
 
 pub overflow_sub-node : goal.overflow_sub-node
 overflow_sub-node c = omega (arith, c.loop-node-test.true)
@@ -45,21 +44,17 @@ loop-node-smaller c = omega (arith, c.loop-node-test.true)
 pub loop-node-preserved : goal.loop-node-preserved
 loop-node-preserved c =
     let call = c.link_node in
-    let p = c.before.before.before.before.before.before.before.before in
-    let s = p.before.before.before.before in
-    let l = p.loop-node in
-    let one : l.node ≡ l.node - 1 + 1 = omega (arith, p.loop-node-test.true) in
-    link-next s.args.levels.now s.args.table.now s.requires l.table l.next l.node (l.node - 1) l.invariant one
+    let l = c.loop-node in
+    let one : l.node ≡ l.node - 1 + 1 = omega (arith, c.loop-node-test.true) in
+    link-next c.args.levels.now c.args.table.now c.requires l.table l.next l.node (l.node - 1) l.invariant one
     call.new.table call.new.next call.ensures.0 call.ensures.1
 
 pub shape_of-table : goal.shape_of-table
 shape_of-table c =
-    let s = c.before.before.before.before.before in
-    omega (arith, c.loop-node.invariant.room, s.requires.room)
+    omega (arith, c.loop-node.invariant.room, c.requires.room)
 
 pub returns : goal.returns
 returns c =
-    let s = c.before.before.before.before.before in
     let l = c.loop-node in
     let end : l.node ≡ 0 = omega (arith, c.loop-node-test.false) in
-    link-end s.args.levels.now s.args.table.now s.requires l.table l.next (subst (Linking s.args.levels.now l.table l.next) end l.invariant)
+    link-end c.args.levels.now c.args.table.now c.requires l.table l.next (subst (Linking c.args.levels.now l.table l.next) end l.invariant)
