@@ -8,7 +8,6 @@ use lib.Dec.{eqb, ltb, leb}
 use lib.ListN.{length, take}
 use borrow.Author.Tests.{le-leb, lt-ltb}
 use Rattle.refusal.proofs.After.{granted-accepted, after-accepted, take-overwrite}
-use Rattle.tree.specs.Table.{nodes}
 use Rattle.refusal.proofs.Truth.{or-true}
 use Rattle.blocks.specs.Block.{block_bytes}
 use Rattle.sheet.specs.Layout.{blocks_for}

@@ -1,4 +1,6 @@
 // From the bytes of a sheet file to the text that is printed for it.
+#![tactic(auto)]
+
 ghost use Rattle.std.specs.Prelude.{◌≤◌, length};
 ghost use Rattle.lines.specs.Printed.{Printed};
 ghost use Rattle.render.specs.Text.{text_room, table_text, SheetListed};
