@@ -91,7 +91,7 @@ added-at-end K k e = ap (λ (m : ℕ). cond (ltb 0 m) K.D.extra 0) e ∙ sym (go
   where
     go : (d : Drawing) → 0 < width d → added K.D.extra (meetings K.D.need d K.c (child K)) ≡ cond (ltb 0 (total (meetings K.D.need d K.c (child K)))) K.D.extra 0
     go none h = absurd (not-suc-le-zero h)
-    go (at u x b a) h = added-moved K.D.need u x b a K.c (child K) K.D.extra
+    go (at u x b a) h = added-moved K.D.need K.D.extra u x b a K.c (child K)
 
 -- of k + e that the child moved, e was added after the walk
 module _ (K : Joining) (after u : List ℤ) (k e d : ℕ) (kept : Kept K after k) (E : Ends K after u (k + e) e d) (added-here : e ≡ added K.D.extra (meetings_of K))

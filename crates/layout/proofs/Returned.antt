@@ -4,8 +4,8 @@ use mathlib.Core.Path.{◌≡◌, refl, sym, ap, ◌∙◌, subst, subst₂}
 use mathlib.Core.Logic.{inl, inr, ⊎_elim}
 use mathlib.Core.Bool.{true}
 use mathlib.Core.List.{List, ◌∷◌, ◌++◌}
-use Prim.Native.Nat.{ℕ, ◌+◌, ◌*◌, ◌≤◌, ◌<◌}
-use native.Mathlib.Nat.{le_refl}
+use Prim.Native.Nat.{ℕ, ◌+◌, ◌-◌, ◌*◌, ◌/◌, ◌≤◌, ◌<◌}
+use native.Mathlib.Nat.{le_refl, mul-le-mul_right}
 use native.Mathlib.Omega.{arith}
 use lib.IntN.{ℤ, pos, nat_abs, ◌+ℤ◌}
 use lib.ListN.{length, get_or, drop, length-map, get_or-append}
@@ -13,7 +13,8 @@ use lib.Seq.{drop_at}
 use lib.Signed.{◌≤ℤ◌}
 use Rattle.refusal.specs.After.{overwrite, after}
 use Rattle.refusal.proofs.After.{after-accepted, overwrite-split}
-use Rattle.distance.specs.Needed.{half_width, needed}
+use Rattle.distance.specs.Needed.{half_width, needed, widest}
+use Rattle.distance.proofs.HalfWidths.{needed-at_most}
 use Rattle.tree.specs.Numbers.{up_to}
 use Rattle.tree.specs.Table.{nodes}
 use Rattle.tree.specs.Levels.{Pair, level, neighbours}
@@ -23,11 +24,12 @@ use Rattle.tree.proofs.Counting.{All, below_or_not, all_both}
 use Rattle.tree.proofs.Tests.{all-at}
 use Rattle.rule.specs.Join.{Spacing, spaced}
 use Rattle.rule.specs.Record.{flat, pair_count}
-use Rattle.rule.specs.Result.{Slices, Answer, LaidOut, Layout, place, places_of, levels_of}
+use Rattle.rule.specs.Result.{Slices, Answer, LaidOut, Layout, place, places_of, levels_of, least_of}
 use Rattle.rule.proofs.Flat.{length-flat, pair_at, flat-at}
 use Rattle.rule.proofs.PairCounts.{pair_index}
 use Rattle.rule.proofs.Promises.{neighbours-count, neighbours-apart, shapes_equal}
-use Rattle.rule.proofs.Extremes.{least-bounds, greatest-bounds, least-met, greatest-met, small-place}
+use Rattle.rule.proofs.Signed.{parts_add, parts_le, at_most}
+use Rattle.rule.proofs.Extremes.{least-bounds, greatest-bounds, least-met, greatest-met, width_bound, small-place}
 use Rattle.rule.proofs.ReadingOrder.{LeftBy, ReadBefore, not_itself, neighbours-read}
 use Rattle.rule.proofs.SideBySide.{SideBySide, beside-told, neighbours-beside, beside-neighbours}
 use Rattle.rule.proofs.Corresponding.{below-corresponding, below-under}
@@ -196,6 +198,24 @@ module _ {t : List ℕ} {D : ℕ} {hs : List ℕ} {extra : ℕ} {s : Slices} {a 
         (λ v h. subst₂ (λ (x y : ℤ). x ≤ℤ y) (sym (place-returned v h)) (sym e) (greatest-bounds N t accepted v h)),
         (m.0, m.1, place-returned m.0 m.1 ∙ m.2 ∙ sym e),
       )
+
+  -- the drawing is at most n - 1 times the sum of the separation and twice the greatest half-width wide, and half that many times the extra space
+  pub width-returned : a.greatest ≤ℤ (a.least +ℤ pos ((nodes t - 1) * (D + 2 * widest (nodes t) hs) + (nodes t - 1) / 2 * extra))
+  width-returned =
+      let W = D + 2 * widest (nodes t) hs in
+      let more : nodes t - 2 ≤ nodes t - 1 = omega arith in
+      let halves : (nodes t - 2) / 2 ≤ (nodes t - 1) / 2 = omega arith in
+      let least = least_of (places_of N t) in
+      rw (L.greatest, L.least)
+      (parts_le _ _
+      (omega (
+        arith,
+        at_most _ _ (width_bound N t accepted W (needed-at_most hs D (nodes t))),
+        mul-le-mul_right W more,
+        mul-le-mul_right extra halves,
+        parts_add least (pos ((nodes t - 2) * W + (nodes t - 2) / 2 * extra)),
+        parts_add least (pos ((nodes t - 1) * W + (nodes t - 1) / 2 * extra)),
+      )))
 
 -- ---- two calls of one separation and one extra space, or one call taken twice
 

@@ -7,10 +7,12 @@ use mathlib.Core.Bool.{Bool, true, false, cond}
 use mathlib.Core.List.Memᴰ
 use mathlib.Core.List.{List, [], ◌∷◌, ◌++◌, map}
 use Prim.Native.Nat.{ℕ, zero, suc, ◌+◌, ◌-◌, ◌*◌, ◌/◌, ◌≤◌, ◌<◌}
-use native.Mathlib.Nat.{not-suc-le-zero}
+use native.Mathlib.Nat.{not-suc-le-zero, mul-le-mul_right}
 use native.Mathlib.Omega.{arith}
 use lib.IntN.{ℤ, pos, nat_abs, ◌+ℤ◌, ◌-ℤ◌}
 use lib.Signed.{◌≤ℤ◌, le_z}
+use Rattle.distance.specs.Needed.{needed, widest}
+use Rattle.distance.proofs.HalfWidths.{needed-at_most}
 use Rattle.tree.specs.Numbers.{up_to}
 use Rattle.tree.specs.Table.{nodes}
 use Rattle.tree.specs.Forest.{Forest, nil, node, tree_of, size}
@@ -19,10 +21,10 @@ use Rattle.tree.proofs.Counting.{All, all_map, all-weaken}
 use Rattle.tree.proofs.Tests.{all-up_to, up_to-all}
 use Rattle.tree.proofs.Stands.{one-root, accepted-numbers, accepted-size}
 use Rattle.rule.specs.Drawing.{Drawing, dot, dots}
-use Rattle.rule.specs.Join.{Spacing, added}
+use Rattle.rule.specs.Join.{Spacing, plain, added}
 use Rattle.rule.specs.Rule.{draw, drawn}
 use Rattle.rule.specs.Result.{place, places_of, lesser, greater, least_of, greatest_of}
-use Rattle.rule.proofs.Signed.{one-part, parts_add, parts_sub, parts_eq, parts_le, AtMost, le_z_true, le_z_false, nat_abs_parts}
+use Rattle.rule.proofs.Signed.{one-part, parts_add, parts_sub, parts_eq, parts_le, AtMost, at_most, le_z_true, le_z_false, nat_abs_parts}
 use Rattle.tree.proofs.Joined.{Some, some}
 use Rattle.rule.proofs.OnLevel.{OnLevel, top}
 use Rattle.rule.proofs.Lookup.{dot-place}
@@ -196,3 +198,19 @@ module _ (D : Spacing) (t : List ℕ) (accepted : table_number t ≡ 0) where
       where
         less_zero : (z : ℤ) → z -ℤ pos 0 ≡ z
         less_zero z = parts_eq (z -ℤ pos 0) z (omega (arith, parts_sub z (pos 0)))
+
+-- a sheet's drawing is at most n - 1 times the sum of the separation and twice the greatest half-width wide
+pub sheet-width : (D : ℕ) (hs t : List ℕ) → table_number t ≡ 0
+    → greatest_of (places_of (plain (needed D hs)) t) ≤ℤ (least_of (places_of (plain (needed D hs)) t) +ℤ pos ((nodes t - 1) * (D + 2 * widest (nodes t) hs)))
+sheet-width D hs t accepted =
+    let W = D + 2 * widest (nodes t) hs in
+    let more : nodes t - 2 ≤ nodes t - 1 = omega arith in
+    let least = least_of (places_of (plain (needed D hs)) t) in
+    parts_le _ _
+    (omega (
+      arith,
+      at_most _ _ (width_bound (plain (needed D hs)) t accepted W (needed-at_most hs D (nodes t))),
+      mul-le-mul_right W more,
+      parts_add least (pos ((nodes t - 2) * W + (nodes t - 2) / 2 * 0)),
+      parts_add least (pos ((nodes t - 1) * W)),
+    ))

@@ -82,6 +82,7 @@ module _ (D : Distance) (u x : ℕ) (below after : Drawing) (v : ℕ) (new : Dra
       let whole : total r.1 ≡ r.0.amount + total r.1 = omega (arith, r.3) in
       rw r.2 (ap (ltb 0) whole)
 
-  pub added-moved : (extra : ℕ) → added extra (meetings D (at u x below after) v new) ≡ cond (ltb 0 (total (meetings D (at u x below after) v new))) extra 0
-  unfolding added
-  added-moved extra = ap (λ (b : Bool). cond b extra 0) significant-moved
+pub added-moved : (D : Distance) (extra u x : ℕ) (below after : Drawing) (v : ℕ) (new : Drawing)
+    → added extra (meetings D (at u x below after) v new) ≡ cond (ltb 0 (total (meetings D (at u x below after) v new))) extra 0
+unfolding added
+added-moved D extra u x below after v new = ap (λ (b : Bool). cond b extra 0) (significant-moved D u x below after v new)

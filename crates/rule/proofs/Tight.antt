@@ -1,16 +1,19 @@
 -- No slack at the last child: at every node with two or more children, some pair of neighbours, the right one in the last child's subtree
 -- and the left one in an earlier child's, stands exactly at the distance that the two need, and what is added there more; and no two nodes
 -- between the two stand closer. Assumes nothing.
-use mathlib.Core.Path.{◌≡◌, refl, sym, ap, subst, subst₂}
+use mathlib.Core.Path.{◌≡◌, refl, sym, ap, ◌∙◌, subst, subst₂}
 use mathlib.Core.List.{List, ◌++◌}
-use Prim.Native.Nat.{ℕ, ◌+◌, ◌≤◌}
+use Prim.Native.Nat.{ℕ, ◌+◌, ◌≤◌, ◌<◌}
 use native.Mathlib.Omega.{arith}
 use lib.IntN.{ℤ, pos, ◌+ℤ◌}
+use lib.ListN.{length}
 use lib.Signed.{◌≤ℤ◌}
 use Rattle.tree.specs.Numbers.{count}
-use Rattle.tree.specs.Forest.{Forest, nil, node, join as joinForest, tree_of, preorder, size}
+use Rattle.tree.specs.Forest.{Forest, nil, node, join as joinForest, tree_of, preorder, size, roots}
+use Rattle.tree.specs.Table.{nodes}
 use Rattle.tree.specs.Levels.{level, neighbours}
 use Rattle.tree.specs.Shape.{under}
+use Rattle.tree.specs.WellFormed.{table_number}
 use Rattle.tree.proofs.Parts.{Part, whole, in_children, in_siblings}
 use Rattle.rule.specs.Drawing.{Drawing, none, at, width, Dot, dots, row_dots}
 use Rattle.rule.specs.Join.{Spacing, above0, shares, added, movement, join, measured, meetings, start, alone}
@@ -28,7 +31,7 @@ use Rattle.rule.proofs.OnLevel.{OnLevel}
 use Rattle.rule.proofs.Exact.{Measured, exact-dots, join-exact}
 use Rattle.rule.proofs.Across.{across}
 use Rattle.rule.proofs.Promises.{measured-neighbours, part_at}
-use Rattle.rule.proofs.LastJoin.{LastOf, Parent, earlier, latest, row, new, met, row_levels_lem, child_levels_lem, row_kept, child-kept, extra-is, origin, row-place, row-level, child-place, child-level}
+use Rattle.rule.proofs.LastJoin.{LastOf, Parent, earlier, latest, row, new, met, row_levels_lem, child_levels_lem, row_kept, child-kept, extra-is, origin, row-place, row-level, child-place, child-level, two-or-more}
 
 -- ---- pairs that a part of the forest measures are measured
 
@@ -67,7 +70,7 @@ recorded-is D t = refl
 -- ---- the exact pair
 
 -- neighbours, the left one in f and the right one in g, that stand at the distance that they need and what is added at node v
-pub record ExactPair (D : Spacing) (t : List ℕ) (v : ℕ) (f g : Forest) : Type 0 where
+pub record ExactBetween (D : Spacing) (t : List ℕ) (v : ℕ) (f g : Forest) : Type 0 where
   pub left : ℕ
   pub right : ℕ
   pub left_in : 1 ≤ count left (preorder f)
@@ -116,8 +119,8 @@ module _ (D : Spacing) {t : List ℕ} {v : ℕ} (P : Parent t v) where
           (alone-child D.need (width (at u x b c)) (width below) L.last (start D.need (at u x b c) L.last) below (row-draw_onto D none L.below row-none)).some
           (join-exact D.need _ u x b c L.last below r)
 
-  pub no_slack : ExactPair D t v (earlier L) (latest L)
-  no_slack =
+  pub exact_between : ExactBetween D t v (earlier L) (latest L)
+  exact_between =
       record {
         left = M.left.node;
         right = M.right.node;
@@ -224,3 +227,36 @@ module _ (D : Spacing) {t : List ℕ} {v : ℕ} (P : Parent t v) where
       apart =
           across D.need around extra m k (shares-mono (width old) (met D P)) xs ys (row_kept D P).spaced (child-kept D P).spaced
           (walk-seams xs ys (row-walk extra xs ys (row_kept D P))) p.0 q.0 p.1 p.2 (subst (λ (l : ℕ). OnLevel q.0 l ys) one_level_lem q.2)
+
+-- ---- at any node with two or more children
+
+-- neighbours below node v, the left one in an earlier child's subtree and the right one in the last child's, that stand at the distance that they
+-- need and what is added where the last child is joined
+pub record ExactPair (D : Spacing) (t : List ℕ) (v : ℕ) : Type 0 where
+  pub earlier : Forest
+  pub last : ℕ
+  pub below : Forest
+  pub split : under t v ≡ joinForest earlier (node last below nil)
+  pub left : ℕ
+  pub right : ℕ
+  pub left_in : 1 ≤ count left (preorder earlier)
+  pub right_in : 1 ≤ count right (preorder (node last below nil))
+  pub side_by_side : 1 ≤ pair_count left right (neighbours t)
+  pub exactly : place D t right ≡ place D t left +ℤ pos (D.need left right + added D.extra (meetings D.need (draw D earlier) last (draw D below)))
+
+pub no_slack : (D : Spacing) (t : List ℕ) → table_number t ≡ 0 → (v : ℕ) → v < nodes t → 2 ≤ length (roots (under t v)) → ExactPair D t v
+no_slack D t accepted v h two =
+    let P : Parent t v = record { accepted = accepted; inside = h; children = two-or-more (under t v) two } in
+    let X = exact_between D P in
+    record {
+      earlier = earlier P.children;
+      last = P.children.last;
+      below = P.children.below;
+      split = P.children.split;
+      left = X.left;
+      right = X.right;
+      left_in = X.left_in;
+      right_in = X.right_in;
+      side_by_side = X.side_by_side;
+      exactly = X.exactly ∙ ap (λ (k : ℕ). place D t X.left +ℤ pos (D.need X.left X.right + k)) (sym (extra-is D P));
+    }
