@@ -2,9 +2,9 @@
 use mathlib.Core.Path.{◌≡◌, refl, sym, ◌∙◌}
 use mathlib.Core.Bool.{true, false}
 use mathlib.Core.List.{List, [], ◌∷◌, ◌++◌}
-use Prim.Native.Nat.{ℕ, zero, suc}
+use Prim.Native.Nat.{ℕ, zero, suc, ◌≤◌, ◌<◌}
 use native.Mathlib.Omega.{arith}
-use borrow.Author.Tests.{ltb-false}
+use borrow.Author.Tests.{lt-ltb, le-ltb, ltb-false}
 use Rattle.refusal.specs.First.{Condition, ◌⇐◌, first}
 use Rattle.refusal.proofs.Laws.{first-here, first-after, first-refused, first-passed, first_past, none_first, first-none}
 use Rattle.tree.specs.WellFormed.{table_number}
@@ -14,6 +14,15 @@ use Rattle.layout.specs.Operation.{distance_conditions, room_conditions, Taken}
 use Rattle.layout.proofs.Answers.{nothing-wrong}
 use Rattle.layout.proofs.Answers as layout
 use Rattle.treetex.specs.TreeTeX.{three_children, bad_extra, treetex_number}
+
+-- the test of 24
+pub too_wide : (extra : ℕ) → 1024 < extra → bad_extra extra ≡ true
+unfolding bad_extra
+too_wide extra h = lt-ltb 1024 extra h
+
+pub not-too-wide : (extra : ℕ) → extra ≤ 1024 → bad_extra extra ≡ false
+unfolding bad_extra
+not-too-wide extra h = le-ltb 1024 extra h
 
 module _ (t : List ℕ) (D : ℕ) (hs : List ℕ) (extra : ℕ) (s : Slices) where
   -- the conditions after the distances', after 23, and after the table's
@@ -53,6 +62,9 @@ module _ (t : List ℕ) (D : ℕ) (hs : List ℕ) (extra : ℕ) (s : Slices) whe
 
         pub number_24 : bad_extra extra ≡ true → 24 ≡ treetex_number t D hs extra s
         number_24 e = sym (number-last ∙ first-here (24 ⇐ bad_extra extra) (room_conditions t s) e)
+
+        pub number_wide : 1024 < extra → 24 ≡ treetex_number t D hs extra s
+        number_wide h = number_24 (too_wide extra h)
 
         pub number-room : bad_extra extra ≡ false → first (room_conditions t s) ≡ treetex_number t D hs extra s
         number-room e = sym (number-last ∙ first-after (24 ⇐ bad_extra extra) (room_conditions t s) e)

@@ -1,4 +1,6 @@
 // The layout of a sheet that is set with TreeTeX: its two conditions, and then the steps of every layout.
+#![tactic(auto)]
+
 ghost use Rattle.std.specs.Prelude.{◌≡◌, ◌<◌};
 ghost use Rattle.tree.specs.Table.{nodes};
 ghost use Rattle.tree.specs.WellFormed.{table_number};
@@ -40,6 +42,7 @@ fn three_children(table: &[u16]) -> bool
 }
 
 // The number of the first condition that holds, or 0.
+#[tactic(auto, using(crate::proofs::Answers::number_wide))]
 fn treetex_number(
     table: &[u16],
     separation: u16,
