@@ -69,6 +69,8 @@ module _ (n : ℕ) (d : ℤ) (some : 0 < n) where
 -- equal only where the float is b in size
 pub eq-size : (y : Float) (t : Bool) (b : ℕ) (s : Bool) (m : ℕ) (e : ℤ) → HasValue y t b 1 → eq y (fin s m e) ≡ true → b * down e ≡ m * up e
 unfolding eq
+eq-size nan t b s m e y-is equal = elim y-is [ ]
+eq-size (inf _) t b s m e y-is equal = elim y-is [ ]
 eq-size (fin u n d) t b s m e y-is equal =
     let crossed : n * up d * down e ≡ m * up e * down d = eqb-true (n * up d * down e) (m * up e * down d) (and_left (eqb (n * up d * down e) (m * up e * down d)) _ equal) in
     eq_of_mul-eq-mul_right (down d) (down_pos d) (b * down e) (m * up e)
@@ -77,6 +79,8 @@ eq-size (fin u n d) t b s m e y-is equal =
 -- and equal where it has the sign too, or is 0
 pub eq-whole : (y : Float) (t : Bool) (b : ℕ) (s : Bool) (m : ℕ) (e : ℤ) → HasValue y t b 1 → b * down e ≡ m * up e → (t ≡ s) ⊎ (b ≡ 0) → eq y (fin s m e) ≡ true
 unfolding eq
+eq-whole nan t b s m e y-is same sign = elim y-is [ ]
+eq-whole (inf _) t b s m e y-is same sign = elim y-is [ ]
 eq-whole (fin u n d) t b s m e y-is same sign =
     let size : n * up d ≡ b * down d = sym (mul-one (n * up d)) ∙ y-is.1 in
     let crossed : n * up d * down e ≡ m * up e * down d = ap (λ (k : ℕ). k * down e) size ∙ mul_right_comm b (down d) (down e) ∙ ap (λ (k : ℕ). k * down d) same in

@@ -21,6 +21,8 @@ use Rattle.screen.proofs.Whole.{whole-value, whole-most}
 
 -- the part before the point, of a float that is a / d in size
 pub part_of : (x : Float) (s : Bool) (a d : ℕ) → HasValue x s a d → whole_part d x ≡ signed s a
+part_of nan s a d x-is = elim x-is [ ]
+part_of (inf _) s a d x-is = elim x-is [ ]
 part_of (fin t m e) s a d x-is = ap₂ (λ (t : Bool) (p : ℕ). signed t (p / down e)) x-is.0 x-is.1 ∙ ap (signed s) (mul-div_cancel a (down_pos e))
 
 -- ---- the zoom

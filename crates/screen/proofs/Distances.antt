@@ -7,7 +7,7 @@ use native.Mathlib.Nat.{mul_assoc, mul-le-mul, mul-le-mul_right, le_of_mul-le-mu
 use native.Mathlib.Omega.{arith}
 use lib.Dec.{leb, lit<, lit≤}
 use lib.IntN.{ℤ, pos, nat_abs, ◌-ℤ◌, ◌*ℤ◌}
-use lib.Ieee.{Float, fin, binary64, up, down, sub, mul, of_int}
+use lib.Ieee.{Float, nan, inf, fin, binary64, up, down, sub, mul, of_int}
 use lib.Ieee.Fits.{down_pos}
 use lib.Ieee.Exact.{HasValue}
 use borrow.Author.Tests.{leb-true, leb-false, le-leb, lt-leb}
@@ -71,6 +71,8 @@ leb-both a b c d there back = go (leb a b) refl
 -- a / 8 in size, and n * 2 ^ j
 within-eighths : (x : Float) (s : Bool) (a n j : ℕ) → 0 < n → HasValue x s a 8
     → within x (fin false n (pos j)) ≡ leb a (8 * (n * 2 ^ j))
+within-eighths nan s a n j some x-is = elim x-is [ ]
+within-eighths (inf _) s a n j some x-is = elim x-is [ ]
 within-eighths (fin t m e) s a n j some x-is =
     let c = down e in
     let y = n * 2 ^ j in

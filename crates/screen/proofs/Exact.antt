@@ -8,7 +8,7 @@ use native.Mathlib.Omega.{arith}
 use lib.Dec.{ltb, lit<, lit≤}
 use lib.IntN.{ℤ, pos, negsuc, nat_abs, ◌+ℤ◌, ◌-ℤ◌, ◌*ℤ◌}
 use lib.Pow.{pow-add, pow_mono, pow_pos, shl_lt}
-use lib.Ieee.{Float, fin, binary64, up, down, unlike, neg, round, sum, add, sub, mul, of_int}
+use lib.Ieee.{Float, nan, inf, fin, binary64, up, down, unlike, neg, round, sum, add, sub, mul, of_int}
 use lib.Ieee.Digits.{back}
 use lib.Ieee.Fits.{down_pos}
 use lib.Ieee.Exact.{HasValue, round_exact}
@@ -93,6 +93,10 @@ module _ (c : ℕ) (some : 0 < c) where
 pub add-whole : (x y : Float) (s t : Bool) (a b : ℕ) → HasValue x s a 1 → HasValue y t b 1 → ((s && t) ≡ true → 0 < a)
     → add binary64 x y ≡ nearest (signed s a +ℤ signed t b) 1
 unfolding add
+add-whole nan y s t a b x-is y-is h = elim x-is [ ]
+add-whole (inf _) y s t a b x-is y-is h = elim x-is [ ]
+add-whole (fin u m e) nan s t a b x-is y-is h = elim y-is [ ]
+add-whole (fin u m e) (inf _) s t a b x-is y-is h = elim y-is [ ]
 add-whole (fin u m e) (fin v n d) s t a b x-is y-is h =
     let x-size : m * up e * down d ≡ a * (down e * down d) = ap (λ (k : ℕ). k * down d) (sym (mul-one (m * up e)) ∙ x-is.1) ∙ mul_assoc a (down e) (down d) in
     let y-size : n * up d * down e ≡ b * (down e * down d) =
@@ -102,6 +106,8 @@ add-whole (fin u m e) (fin v n d) s t a b x-is y-is h =
 
 pub neg_value : (x : Float) (s : Bool) (a c : ℕ) → HasValue x s a c → HasValue (neg x) (not s) a c
 unfolding neg
+neg_value nan s a c x-is = elim x-is [ ]
+neg_value (inf _) s a c x-is = elim x-is [ ]
 neg_value (fin u m e) s a c x-is = (ap not x-is.0, x-is.1)
 
 -- a whole number less another
@@ -128,6 +134,10 @@ unlike_false true = refl
 
 mul-values : (x z : Float) (s : Bool) (a p b q : ℕ) → 0 < p * q → HasValue x s a p → HasValue z false b q → mul binary64 x z ≡ round binary64 s (a * b) (p * q)
 unfolding mul
+mul-values nan z s a p b q some x-is z-is = elim x-is [ ]
+mul-values (inf _) z s a p b q some x-is z-is = elim x-is [ ]
+mul-values (fin u m e) nan s a p b q some x-is z-is = elim z-is [ ]
+mul-values (fin u m e) (inf _) s a p b q some x-is z-is = elim z-is [ ]
 mul-values (fin u m e) (fin v n d) s a p b q some x-is z-is =
     rw (x-is.0, z-is.0, unlike_false)
     (round_same binary64 s (m * up e * (n * up d)) (down e * down d) (a * b) (p * q) (mul-pos (down_pos e) (down_pos d)) some
@@ -150,6 +160,8 @@ mul-eight k small =
 -- ---- a float that has a value is that fraction
 
 pub equals_of : (x : Float) (s : Bool) (a d : ℕ) → HasValue x s a d → Equals x (signed s a) d
+equals_of nan s a d x-is = elim x-is [ ]
+equals_of (inf _) s a d x-is = elim x-is [ ]
 equals_of (fin u m e) s a d x-is = ap₂ signed x-is.0 x-is.1 ∙ signed-times s a (down e)
 
 pub equals-nearest : (b : ℕ) (k : ℤ) → b ≤ 1074 → nat_abs k < 2 ^ 53 → Equals (nearest k (2 ^ b)) k (2 ^ b)

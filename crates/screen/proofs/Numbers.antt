@@ -25,6 +25,8 @@ equals-true (fin s m d) a b e =
     ap₂ signed (not-true s (and_left (not s) (eqb (m * up d * b) (a * down d)) e)) (eqb-true (m * up d * b) (a * down d) (and_right (not s) (eqb (m * up d * b) (a * down d)) e))
 
 pub true-equals : (x : Float) (a b : ℕ) → 0 < a → Equals x (pos a) b → equals x a b ≡ true
+true-equals nan a b some e = elim e [ ]
+true-equals (inf _) a b some e = elim e [ ]
 true-equals (fin s m d) a b some e = go s (m * up d * b) (a * down d) (mul-pos some (down_pos d)) e
   where
     go : (s : Bool) (p q : ℕ) → 0 < q → signed s p ≡ pos q → (not s && eqb p q) ≡ true

@@ -6,7 +6,7 @@ use native.Mathlib.Nat.{mul-one, mul_right_comm, le_trans, le_of_eq, lt_of_lt_of
 use native.Mathlib.Omega.{arith}
 use lib.Dec.{lit<}
 use lib.Pow.{pow-add, pow_mono, pow_pos}
-use lib.Ieee.{Float, fin, binary64, up, down, size, round}
+use lib.Ieee.{Float, nan, inf, fin, binary64, up, down, size, round}
 use lib.Ieee.Digits.{size-lt, size-le}
 use lib.Ieee.Fits.{kept-lt, nearest-le}
 use lib.Ieee.Exact.{HasValue}
@@ -15,6 +15,8 @@ use lib.Ieee.Scale.{round_val}
 
 -- q * 2 ^ l / 2 ^ l is the whole number q
 in_lowest : (x : Float) (s : Bool) (q l : ℕ) → HasValue x s (q * 2 ^ l) (2 ^ l) → HasValue x s q 1
+in_lowest nan s q l x-is = elim x-is [ ]
+in_lowest (inf _) s q l x-is = elim x-is [ ]
 in_lowest (fin t m e) s q l x-is =
     (x-is.0, mul-one (m * up e) ∙ eq_of_mul-eq-mul_right (2 ^ l) (pow_pos l) (m * up e) (q * down e) (x-is.1 ∙ mul_right_comm q (2 ^ l) (down e)))
 

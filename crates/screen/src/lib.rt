@@ -1,11 +1,13 @@
 // Where a view of the studio screen shows a node: on screen at two distances from the middle, or off.
+#![tactic(auto)]
+
 ghost use Rattle.std.specs.Prelude.{◌≡◌, ◌&&◌};
 ghost use Rattle.std.specs.Float.{binary64};
 ghost use Rattle.std.specs.Float.Ieee.{neg, le, of_int};
 ghost use Rattle.screen.specs.Screen as screen;
 
 // The middle of the screen, across and down, and how many times as large a unit is drawn.
-#[derive(Drop)]
+#[derive(Clone, Copy)]
 pub struct View {
     pub across: f64,
     pub down: f64,
@@ -13,20 +15,20 @@ pub struct View {
 }
 
 // On screen, at the distances from the middle across and down; or off.
-#[derive(Drop)]
+#[derive(Clone, Copy)]
 pub enum Seen {
     On(f64, f64),
     Off,
 }
 
-#[derive(Drop)]
+#[derive(Clone, Copy)]
 pub struct Judged {
     pub number: u16,
     pub seen: Seen,
 }
 
 // The same in plain fields: on is 1 or 0, and a node that is off has the distances 0.
-#[derive(Drop)]
+#[derive(Clone, Copy)]
 pub struct Values {
     pub number: u16,
     pub on: u8,

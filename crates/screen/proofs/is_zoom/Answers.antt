@@ -8,10 +8,9 @@ use lib.Ieee.{fin, up, down, eq, of_bits}
 use Rattle.screen.specs.Fraction.{equals}
 use Rattle.screen.specs.Screen.{is_zoom}
 use Rattle.screen.proofs.Compared.{eq-equals}
-use Rattle.screen.proofs.is_zoom.Statement.{statement}
-use Rattle.screen.proofs.is_zoom.Tie as tie
+use Rattle.screen.proofs.is_zoom.Goals as goal
 
-returns : tie.Need-returns
+pub returns : goal.returns
 unfolding is_zoom of_bits
 returns c =
     let z = c.args.z in
@@ -19,6 +18,3 @@ returns c =
     ap₂ ◌||◌
     (ap₂ ◌||◌ (ap₂ ◌||◌ (ap₂ ◌||◌ (ap₂ ◌||◌ (ap₂ ◌||◌ (at (negsuc 2)) (at (negsuc 1))) (at (negsuc 0))) (at (pos 0))) (at (pos 1))) (at (pos 2)))
     (at (pos 3))
-
-pub is-zoom-spec : {M : Type 1} → statement M
-is-zoom-spec = tie.close (tie.spec returns)

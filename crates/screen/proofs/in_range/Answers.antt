@@ -7,21 +7,13 @@ use lib.IntN.{ℤ, pos, negsuc, nat_abs}
 use lib.Signed.{le_z}
 use mir.Syntax.{w32}
 use mir.ValLaws.{to_z-of_z}
-use borrow.Author.Rules.{rules}
 use Rattle.screen.specs.Screen.{in_range}
-use Rattle.screen.proofs.in_range.Statement.{statement}
-use Rattle.screen.proofs.in_range.Tie as tie
-
-sub-result : tie.Need-overflow-sub-result
-sub-result c = search rules
+use Rattle.screen.proofs.in_range.Goals as goal
 
 both_ways : (most : ℕ) (z : ℤ) → (le_z (negsuc most) z && le_z z (pos (suc most))) ≡ leb (nat_abs z) (suc most)
 both_ways most (pos n) = refl
 both_ways most (negsuc n) = and-true (leb n most) ∙ sym (leb-suc-suc n most)
 
-returns : tie.Need-returns
+pub returns : goal.returns
 unfolding in_range
 returns c = rw (to_z-of_z w32 c.args.place c.ranges.place) (both_ways _ c.args.place)
-
-pub in-range-spec : {M : Type 1} → statement M
-in-range-spec = tie.close (tie.spec sub-result returns)
