@@ -25,7 +25,7 @@ use Rattle.rule.specs.Rule.{significant_at, extra_at}
 use Rattle.rule.specs.Result.{Slices, Answer, Layout}
 use Rattle.rule.proofs.Signed.{parts_add, parts_le, at_most}
 use Rattle.rule.proofs.LastJoin.{LastOf, Parent, earlier, latest, two-or-more}
-use Rattle.rule.proofs.Tight.{no_slack, no_closer}
+use Rattle.rule.proofs.Tight.{exact_between, no_closer}
 use Rattle.rule.proofs.TwoChildren.{significant-wider}
 use Rattle.rule.proofs.Extremes.{width_bound}
 use Rattle.layout.proofs.Returned.{Call, layout-call, accepted, place_of, level_of, pair_of, place-returned, level-returned, recorded-returned}
@@ -59,7 +59,7 @@ module _ {t : List ℕ} {D : ℕ} {hs : List ℕ} {extra : ℕ} {s : Slices} {a 
 
     pub no_slack_returned : NoSlack (needed D hs) (extra_at N t v) t v (level_of u) (place_of u)
     no_slack_returned =
-        let X = no_slack N P in
+        let X = exact_between N P in
         record {
           left = X.left;
           right = X.right;
