@@ -78,7 +78,7 @@ pub record Walking (J : Join) (before now : Fields) (s : Stand) : Type 0 where
   pub row : J.row ≡ above-row ++ (x ∷ xs)
   pub child : J.child ≡ above-child ++ (y ∷ ys)
   pub level : length above-row ≡ length above-child
-  pub one_level_lem : s.e ≤ J.first s.a
+  pub one_level : s.e ≤ J.first s.a
   pub fits : s.e ≤ J.n
   pub runs_row : Runs J.first s.a s.b (x ∷ xs)
   pub runs_child : Runs J.first s.b s.e (y ∷ ys)
@@ -178,7 +178,7 @@ module _ {J : Join} {before old : Fields} {s : Stand} (W : Walking J before old 
 
   -- the child's level ends before the next one begins
   pub reach : s.e ≤ J.first s.b
-  reach = le_trans W.one_level_lem (mono-le J.first J.n J.ordered s.a s.b (omega (arith, W.runs_row.0)) (omega (arith, W.runs_child.0, W.fits)))
+  reach = le_trans W.one_level (mono-le J.first J.n J.ordered s.a s.b (omega (arith, W.runs_row.0)) (omega (arith, W.runs_child.0, W.fits)))
 
   module _ {new : Fields} (T : Turned J old new owner amount (last_of W.y).node) (row : J.f + owner < J.c) where
     pub moves-now : Moves J before new met_now
@@ -219,7 +219,7 @@ module _ {J : Join} {before old : Fields} {s : Stand} (W : Walking J before old 
           row = rw append_assoc (rw ex at W.row);
           child = rw append_assoc (rw ey at W.child);
           level = simp length-append (omega (arith, W.level));
-          one_level_lem = mono-le J.first J.n J.ordered s.e (J.first s.a) W.one_level_lem (within J.first J.n J.ordered s.a (omega (arith, W.fits, W.runs_row.0, W.runs_child.0)));
+          one_level = mono-le J.first J.n J.ordered s.e (J.first s.a) W.one_level (within J.first J.n J.ordered s.a (omega (arith, W.fits, W.runs_row.0, W.runs_child.0)));
           fits = within J.first J.n J.ordered s.e W.fits;
           runs_row = rw ex at W.runs_row.4;
           runs_child = rw ey at W.runs_child.4;

@@ -71,7 +71,7 @@ module _ {K : Joining} {now : List ℤ} {k : ℕ} (kept : Kept K now k) where
 module _ (K : Joining) where
   pub row_modest : (z : ℤ) (e : Dot) (l : ℕ) → z ≡ e.place → OnLevel e l (J K).row → Modest z
   row_modest z e l q o =
-      omega (arith, ap nat_abs q, row_near (first K) (nodes K.t) (O K) K.D (few K) K.joins.given.high K.joins.given.little K.f K.c (S K).some (omega (arith, small_n K)) (omega (arith, (S K).one_level_lem, K.joins.inside)) e l o)
+      omega (arith, ap nat_abs q, row_near (first K) (nodes K.t) (O K) K.D (few K) K.joins.given.high K.joins.given.little K.f K.c (S K).some (omega (arith, small_n K)) (omega (arith, (S K).one_level, K.joins.inside)) e l o)
 
   pub child_modest : (z : ℤ) (e : Dot) (l : ℕ) → z ≡ e.place → OnLevel e l (J K).child → Modest z
   child_modest z e l q o =
@@ -181,7 +181,7 @@ module _ (K : Joining) where
         row = T.2;
         child = C.1;
         level = refl;
-        one_level_lem = omega (arith, K.joins.inside, (S K).one_level_lem);
+        one_level = omega (arith, K.joins.inside, (S K).one_level);
         fits = omega (arith, small_n K);
         runs_row = rw T.2 at (row_runs K);
         runs_child = subst (λ (x : ℕ). Runs (first K) c x ((dot (width (row K)) c (pos (0 + start_at K)) ∷ []) ∷ C.0)) (sym e) (subst (Runs (first K) c (suc c)) C.1 (child_runs K));

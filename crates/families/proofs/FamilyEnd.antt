@@ -29,7 +29,7 @@ use Rattle.contours.proofs.Places.{first_place_lem, last_place_lem, row_first, r
 use Rattle.contours.proofs.Bounds.{row_bound, place_bound}
 use Rattle.level_order.proofs.Occurs.{times-root, times-from}
 use Rattle.contours.proofs.Kept.{left-kept, right_kept}
-use Rattle.families.proofs.FamilyStart.{first, f, end, O, work, later, fits, f-inside, one_level_lem, other}
+use Rattle.families.proofs.FamilyStart.{first, f, end, O, work, later, fits, f-inside, one_level, other}
 
 -- a move from one place to another is no longer than both
 move_bound : (z : ℤ) (k a b : ℕ) → pos k +ℤ z ≡ pos a → k ≤ b → a ≤ b → nat_abs z ≤ b
@@ -75,11 +75,11 @@ module _ {t : List ℕ} {D : Spacing} {p : ℕ} {before : List ℤ} (G : Given t
 
   last_bound : last_place row ≤ 2094592
   last_bound =
-      row_bound (first G R) N (O G R) D few G.high G.little F E R.some (fits G R) (one_level_lem G R)
+      row_bound (first G R) N (O G R) D few G.high G.little F E R.some (fits G R) (one_level G R)
 
   each_bound : (q : ℕ) → F ≤ q → q < E → place_at row (q - F) ≤ 2094592
   each_bound q h k =
-      place_bound (first G R) N (O G R) D few G.high G.little F E R.some (fits G R) (one_level_lem G R)
+      place_bound (first G R) N (O G R) D few G.high G.little F E R.some (fits G R) (one_level G R)
       (q - F) (omega arith)
 
   module _ (mid : List ℤ) (A : AllJoined t D F E (work G R) mid) where
@@ -169,7 +169,7 @@ module _ {t : List ℕ} {D : Spacing} {p : ℕ} {before : List ℤ} (G : Given t
         -- the nodes of the row come after p
         past : (z : ℕ) → 1 ≤ occurs t F E z → F ≤ z
         past z s =
-            times-from (first G R) N (O G R) F E z (omega (arith, R.some)) (one_level_lem G R)
+            times-from (first G R) N (O G R) F E z (omega (arith, R.some)) (one_level G R)
             (omega (arith, f-inside G R)) s
 
         whole : (z : ℕ) → occurs t p (suc p) z ≡ is z p + occurs t F E z

@@ -116,8 +116,8 @@ module _ {t : List ℕ} {D : Spacing} {p : ℕ} {before : List ℤ} (G : Given t
   pub f-inside : f < n
   f-inside = omega (arith, R.some, fits)
 
-  pub one_level_lem : end ≤ first f
-  one_level_lem = mono-le first n O (suc p) f later (omega (arith, f-inside))
+  pub one_level : end ≤ first f
+  one_level = mono-le first n O (suc p) f later (omega (arith, f-inside))
 
   pub room : 16 * n ≤ length before
   room = R.numbered.size
@@ -174,7 +174,7 @@ module _ {t : List ℕ} {D : Spacing} {p : ℕ} {before : List ℤ} (G : Given t
         right-steps = subst (RightSteps (get work RIGHT)) (sym (dots-one first n O D f f-inside))
             (subtree-right (get work LEFT) (get work RIGHT) f 0 0 (children_drawn first n D f) filled S.right-row S.right-root);
         owned = subst (Owned (get work ANCESTOR) f end f) (sym (dots-one first n O D f f-inside))
-            (owned-one first n O D f f-inside (get work ANCESTOR) end stale one_level_lem (other ANCESTOR f (omega arith) (λ e. omega (arith, e)) ∙ R.own f R.some));
+            (owned-one first n O D f f-inside (get work ANCESTOR) end stale one_level (other ANCESTOR f (omega arith) (λ e. omega (arith, e)) ∙ R.own f R.some));
       }
     where
       S : Subtree first n D f (get work LEFT) (get work RIGHT)
@@ -191,8 +191,8 @@ module _ {t : List ℕ} {D : Spacing} {p : ℕ} {before : List ℤ} (G : Given t
           some = omega arith;
           more = R.some;
           fits = fits;
-          one_level_lem = one_level_lem;
-          alone = λ z. times-once first n O f end z (omega (arith, R.some)) one_level_lem (omega (arith, f-inside));
+          one_level = one_level;
+          alone = λ z. times-once first n O f end z (omega (arith, R.some)) one_level (omega (arith, f-inside));
         };
         default-low = le_refl f;
         default-high = omega arith;
@@ -214,7 +214,7 @@ module _ {t : List ℕ} {D : Spacing} {p : ℕ} {before : List ℤ} (G : Given t
       wait : (q : ℕ) → f < q → q < end → (z : ℕ) → 1 ≤ occurs t (first q) (first (suc q)) z → Outside f end (get work ANCESTOR z)
       wait q h k z s =
           stale-at first n O D f f-inside (get work ANCESTOR) end stale z
-          (omega (arith, one_level_lem, mono-le first n O f q (omega arith) (omega (arith, fits)), times-from first n O (first q) (first (suc q)) z up next within-q s))
+          (omega (arith, one_level, mono-le first n O f q (omega arith) (omega (arith, fits)), times-from first n O (first q) (first (suc q)) z up next within-q s))
           (times_below first n O (first q) (first (suc q)) z up next within-q s)
         where
           up : first q ≤ first (suc q)

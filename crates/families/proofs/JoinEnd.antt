@@ -184,7 +184,7 @@ module _ (K : Joining) (after u : List ℤ) (k e d : ℕ) (kept : Kept K after k
   rowed =
       record {
         numbered = numbered-kept K.joins.rowed.numbered final (omega (arith, room, put-length u PLACE c v)) (λ g p h. same g p (omega arith));
-        siblings = record { some = omega (arith, (S K).some); more = K.joins.inside; fits = (S K).fits; one_level_lem = (S K).one_level_lem; alone = (S K).alone };
+        siblings = record { some = omega (arith, (S K).some); more = K.joins.inside; fits = (S K).fits; one_level = (S K).one_level; alone = (S K).alone };
         default-low = E.default-low;
         default-high = E.default-high;
         row = next_row;

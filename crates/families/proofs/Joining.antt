@@ -172,7 +172,7 @@ module _ (K : Joining) where
       ∙ join-new D row c child
 
   pub next_bound : last_place (row_drawn first n D f (suc c)) ≤ 2094592
-  next_bound = row_bound first n O D few K.joins.given.high K.joins.given.little f (suc c) (omega (arith, S.some)) small_n (omega (arith, S.one_level_lem, K.joins.inside))
+  next_bound = row_bound first n O D few K.joins.given.high K.joins.given.little f (suc c) (omega (arith, S.some)) small_n (omega (arith, S.one_level, K.joins.inside))
 
   pub row_last_bound : last_place row ≤ 2094592
-  row_last_bound = row_bound first n O D few K.joins.given.high K.joins.given.little f c S.some (omega (arith, small_n)) (omega (arith, S.one_level_lem, K.joins.inside))
+  row_last_bound = row_bound first n O D few K.joins.given.high K.joins.given.little f c S.some (omega (arith, small_n)) (omega (arith, S.one_level, K.joins.inside))

@@ -38,7 +38,7 @@ pub record Siblings (t : List ℕ) (f c end : ℕ) : Type 0 where
   pub some : f < c
   pub more : c ≤ end
   pub fits : end ≤ nodes t
-  pub one_level_lem : end ≤ first_at (tree_of t) f
+  pub one_level : end ≤ first_at (tree_of t) f
   pub alone : (z : ℕ) → occurs t f end z ≤ 1
 
 -- what has been gathered is no more than the row is wide

@@ -72,18 +72,18 @@ module _ (lev : ℕ → ℕ) where
   later i ([] ∷ ls) h s = absurd (not-suc-le-zero (some-length s.0))
   later i ((b ∷ l) ∷ ls) h s = λ e. omega (arith, h.0.0, e)
 
-  one_level_lem : (i a : ℕ) (l rest : List ℕ) → All (λ v. lev v ≡ i) (a ∷ l) → Later i rest
+  one_level : (i a : ℕ) (l rest : List ℕ) → All (λ v. lev v ≡ i) (a ∷ l) → Later i rest
       → pairs_on lev ((a ∷ l) ++ rest) ≡ side_by_side (a ∷ l) ++ pairs_on lev rest
-  one_level_lem i a [] [] h d = refl
-  one_level_lem i a [] (b ∷ rest) h d = ap (λ (m : List Pair). m ++ pairs_on lev (b ∷ rest)) (link-other a b (λ e. d (sym e ∙ h.0)))
-  one_level_lem i a (b ∷ l) rest h d =
-      ap₂ ◌++◌ (link-same a b (h.0 ∙ sym h.1.0)) (one_level_lem i b l rest h.1 d)
+  one_level i a [] [] h d = refl
+  one_level i a [] (b ∷ rest) h d = ap (λ (m : List Pair). m ++ pairs_on lev (b ∷ rest)) (link-other a b (λ e. d (sym e ∙ h.0)))
+  one_level i a (b ∷ l) rest h d =
+      ap₂ ◌++◌ (link-same a b (h.0 ∙ sym h.1.0)) (one_level i b l rest h.1 d)
 
   pub level-pairs : (i : ℕ) (ls : List (List ℕ)) → Leveled lev i ls → All Some ls → pairs_on lev (together ls) ≡ flat_map side_by_side ls
   level-pairs i [] h s = refl
   level-pairs i ([] ∷ ls) h s = level-pairs (suc i) ls h.1 s.1
   level-pairs i ((a ∷ l) ∷ ls) h s =
-      one_level_lem i a l (together ls) h.0 (later i ls h.1 s.1)
+      one_level i a l (together ls) h.0 (later i ls h.1 s.1)
       ∙ ap (λ (m : List Pair). side_by_side (a ∷ l) ++ m) (level-pairs (suc i) ls h.1 s.1)
 
   -- the last node is on the last level

@@ -68,12 +68,12 @@ module _ (lev : ℕ → ℕ) (spot : ℕ → ℤ) (D : ℕ) (some : 1 ≤ D) whe
   left-under : (a b : ℕ) → LeftBy spot D a b → Under (spot a) (spot b)
   left-under a b h = omega (arith, at_most (spot a +ℤ pos D) (spot b) h, parts_add (spot a) (pos D))
 
-  one_level_lem : (i : ℕ) (l : List ℕ) → All (λ v. lev v ≡ i) l → Pairwise (LeftBy spot D) l → Pairwise Before (map stands l)
-  one_level_lem i [] h r = tt
-  one_level_lem i (a ∷ l) h r = (
+  one_level : (i : ℕ) (l : List ℕ) → All (λ v. lev v ≡ i) l → Pairwise (LeftBy spot D) l → Pairwise Before (map stands l)
+  one_level i [] h r = tt
+  one_level i (a ∷ l) h r = (
     all_map stands (λ b. (lev b ≡ i) × LeftBy spot D a b) (Before (stands a)) (λ b k. inr (ap pos (h.0 ∙ sym k.0), left-under a b k.1)) l
         (all_both (λ b. lev b ≡ i) (LeftBy spot D a) _ (λ b k m. (k, m)) l h.1 r.0),
-    one_level_lem i l h.1 r.1,
+    one_level i l h.1 r.1,
   )
 
   levels-rise : (i : ℕ) (ls : List (List ℕ)) → Leveled lev i ls → All (Apart spot D) (flat_map side_by_side ls) → Pairwise Before (map stands (together ls))
@@ -81,7 +81,7 @@ module _ (lev : ℕ → ℕ) (spot : ℕ → ℤ) (D : ℕ) (some : 1 ≤ D) whe
   levels-rise i (l ∷ ls) h s =
       subst (Pairwise Before) (sym (map-append stands l (together ls)))
       (pairwise_append Before (map stands l) (map stands (together ls))
-      (one_level_lem i l h.0 (rising spot D l (all_left (Apart spot D) (side_by_side l) (flat_map side_by_side ls) s)))
+      (one_level i l h.0 (rising spot D l (all_left (Apart spot D) (side_by_side l) (flat_map side_by_side ls) s)))
       (levels-rise (suc i) ls h.1 (all_right (Apart spot D) (side_by_side l) (flat_map side_by_side ls) s))
       (all_map stands (λ a. lev a ≡ i) (λ p. All (Before p) (map stands (together ls)))
       (λ a e. all_map stands (λ b. suc i ≤ lev b) (Before (stands a)) (λ b k. inl (omega arith)) (together ls) (leveled-all lev (λ k. suc i ≤ k) (suc i) ls (λ k a b. a) h.1)) l h.0))

@@ -95,16 +95,16 @@ module _ (D : Spacing) {t : List ℕ} {v : ℕ} (P : Parent t v) where
   met = meetings D.need row L.last new
 
   -- the levels of both sides before anything moves
-  abbrev pub row_levels_lem : List (List Dot)
-  row_levels_lem = row_dots 0 row
+  abbrev pub row_levels : List (List Dot)
+  row_levels = row_dots 0 row
 
-  abbrev pub child_levels_lem : List (List Dot)
-  child_levels_lem = dots (width row) (pos 0) (alone L.last (start D.need row L.last) new)
+  abbrev pub child_levels : List (List Dot)
+  child_levels = dots (width row) (pos 0) (alone L.last (start D.need row L.last) new)
 
-  pub row_kept : Row D.need (width row) row_levels_lem
+  pub row_kept : Row D.need (width row) row_levels
   row_kept = row-draw_onto D none (earlier L) row-none
 
-  pub child-kept : Child D.need (width row) child_levels_lem
+  pub child-kept : Child D.need (width row) child_levels
   child-kept = alone-child D.need (width row) (width new) L.last (start D.need row L.last) new (row-draw_onto D none L.below row-none)
 
   pub significant-is : significant met ≡ significant_at D t v
@@ -124,10 +124,10 @@ module _ (D : Spacing) {t : List ℕ} {v : ℕ} (P : Parent t v) where
 
   -- the levels of both sides as they stand: each child of the row moved by its shares, and the last by all that it moves
   abbrev row_moved : List (List Dot)
-  row_moved = map (map (move_by (shares (width row) met))) row_levels_lem
+  row_moved = map (map (move_by (shares (width row) met))) row_levels
 
   abbrev child-moved : List (List Dot)
-  child-moved = map (map (shift_by (pos (movement D.extra met)))) child_levels_lem
+  child-moved = map (map (shift_by (pos (movement D.extra met)))) child_levels
 
   levels-below : dots 0 origin (draw D (under t v)) ≡ map (map (settle 0 origin)) (beside row_moved child-moved)
   levels-below =
@@ -138,20 +138,20 @@ module _ (D : Spacing) {t : List ℕ} {v : ℕ} (P : Parent t v) where
   stands : {e : Dot} {l : ℕ} → OnLevel e l (beside row_moved child-moved) → OnLevel (settle 0 origin e) (suc (S.level + l)) (drawn D t)
   stands {e} {l} o = S.under _ l (subst (OnLevel (settle 0 origin e) l) (sym levels-below) (on_move (settle 0 origin) _ o))
 
-  row-stands : {e : Dot} {l : ℕ} → OnLevel e l row_levels_lem → OnLevel (settle 0 origin (move_by (shares (width row) met) e)) (suc (S.level + l)) (drawn D t)
-  row-stands o = stands (on-left child-moved (on_move (move_by (shares (width row) met)) row_levels_lem o))
+  row-stands : {e : Dot} {l : ℕ} → OnLevel e l row_levels → OnLevel (settle 0 origin (move_by (shares (width row) met) e)) (suc (S.level + l)) (drawn D t)
+  row-stands o = stands (on-left child-moved (on_move (move_by (shares (width row) met)) row_levels o))
 
-  child-stands : {e : Dot} {l : ℕ} → OnLevel e l child_levels_lem → OnLevel (settle 0 origin (shift_by (pos (movement D.extra met)) e)) (suc (S.level + l)) (drawn D t)
-  child-stands o = stands (on-right row_moved (on_move (shift_by (pos (movement D.extra met))) child_levels_lem o))
+  child-stands : {e : Dot} {l : ℕ} → OnLevel e l child_levels → OnLevel (settle 0 origin (shift_by (pos (movement D.extra met)) e)) (suc (S.level + l)) (drawn D t)
+  child-stands o = stands (on-right row_moved (on_move (shift_by (pos (movement D.extra met))) child_levels o))
 
-  pub row-place : {e : Dot} {l : ℕ} → OnLevel e l row_levels_lem → place D t e.node ≡ (e.place +ℤ pos (shares (width row) met e.child)) +ℤ origin
+  pub row-place : {e : Dot} {l : ℕ} → OnLevel e l row_levels → place D t e.node ≡ (e.place +ℤ pos (shares (width row) met e.child)) +ℤ origin
   row-place o = dot-place D t P.accepted _ _ (row-stands o)
 
-  pub row-level : {e : Dot} {l : ℕ} → OnLevel e l row_levels_lem → level t e.node ≡ suc (S.level + l)
+  pub row-level : {e : Dot} {l : ℕ} → OnLevel e l row_levels → level t e.node ≡ suc (S.level + l)
   row-level o = dot-level D t P.accepted _ _ (row-stands o)
 
-  pub child-place : {e : Dot} {l : ℕ} → OnLevel e l child_levels_lem → place D t e.node ≡ (e.place +ℤ pos (movement D.extra met)) +ℤ origin
+  pub child-place : {e : Dot} {l : ℕ} → OnLevel e l child_levels → place D t e.node ≡ (e.place +ℤ pos (movement D.extra met)) +ℤ origin
   child-place o = dot-place D t P.accepted _ _ (child-stands o)
 
-  pub child-level : {e : Dot} {l : ℕ} → OnLevel e l child_levels_lem → level t e.node ≡ suc (S.level + l)
+  pub child-level : {e : Dot} {l : ℕ} → OnLevel e l child_levels → level t e.node ≡ suc (S.level + l)
   child-level o = dot-level D t P.accepted _ _ (child-stands o)

@@ -77,13 +77,13 @@ module _ (lev : ℕ → ℕ) (spot : ℕ → ℤ) (D : ℕ) where
       (all-weaken (λ q. lev q.0 ≡ j) (λ q. i < lev q.0) (λ q e. omega arith) (side_by_side l) (left-nodes (λ v. lev v ≡ j) l h.0))
       (lower i (suc j) ls (omega arith) h.1)
 
-  one_level_lem : (i : ℕ) (l : List ℕ) → All (λ v. lev v ≡ i) l → Pairwise (LeftBy spot D) l → Pairwise (ReadBefore lev spot D) (side_by_side l)
-  one_level_lem i [] h r = tt
-  one_level_lem i (a ∷ []) h r = tt
-  one_level_lem i (a ∷ b ∷ l) h r = (
+  one_level : (i : ℕ) (l : List ℕ) → All (λ v. lev v ≡ i) l → Pairwise (LeftBy spot D) l → Pairwise (ReadBefore lev spot D) (side_by_side l)
+  one_level i [] h r = tt
+  one_level i (a ∷ []) h r = tt
+  one_level i (a ∷ b ∷ l) h r = (
     all_both (λ q. lev q.0 ≡ i) (λ q. LeftBy spot D a q.0) (ReadBefore lev spot D (a, b)) (λ q e m. inr (h.0 ∙ sym e, m)) (side_by_side (b ∷ l))
         (left-nodes (λ v. lev v ≡ i) (b ∷ l) h.1) (left-nodes (LeftBy spot D a) (b ∷ l) r.0),
-    one_level_lem i (b ∷ l) h.1 r.1,
+    one_level i (b ∷ l) h.1 r.1,
   )
 
   levels_in-order : (i : ℕ) (ls : List (List ℕ)) → Leveled lev i ls → All (Apart spot D) (flat_map side_by_side ls) → Pairwise (ReadBefore lev spot D) (flat_map side_by_side ls)
@@ -91,7 +91,7 @@ module _ (lev : ℕ → ℕ) (spot : ℕ → ℤ) (D : ℕ) where
   levels_in-order i (l ∷ ls) h s =
       let rest = flat_map side_by_side ls in
       pairwise_append (ReadBefore lev spot D) (side_by_side l) rest
-      (one_level_lem i l h.0 (rising spot D l (all_left (Apart spot D) (side_by_side l) rest s)))
+      (one_level i l h.0 (rising spot D l (all_left (Apart spot D) (side_by_side l) rest s)))
       (levels_in-order (suc i) ls h.1 (all_right (Apart spot D) (side_by_side l) rest s))
       (all-weaken (λ p. lev p.0 ≡ i) (λ p. All (ReadBefore lev spot D p) rest)
       (λ p e. all-weaken (λ q. i < lev q.0) (ReadBefore lev spot D p) (λ q m. inl (omega arith)) rest (lower i (suc i) ls (omega arith) h.1))

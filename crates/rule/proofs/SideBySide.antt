@@ -33,7 +33,7 @@ NotBetween spot x y z = (spot z ≤ℤ spot x) ⊎ (spot y ≤ℤ spot z)
 pub record SideBySide (In : ℕ → Type 0) (lev : ℕ → ℕ) (spot : ℕ → ℤ) (x y : ℕ) : Type 0 where
   pub left_in : In x
   pub right_in : In y
-  pub one_level_lem : lev x ≡ lev y
+  pub one_level : lev x ≡ lev y
   pub left : spot x <ℤ spot y
   pub none_between : (z : ℕ) → In z → lev z ≡ lev x → NotBetween spot x y z
 
@@ -50,7 +50,7 @@ beside-told In In' lev lev' spot spot' x y to from i j B =
     record {
       left_in = i;
       right_in = j;
-      one_level_lem = sym l.0 ∙ B.one_level_lem ∙ r.0;
+      one_level = sym l.0 ∙ B.one_level ∙ r.0;
       left = subst₂ ◌<ℤ◌ l.1 r.1 B.left;
       none_between = λ z h k.
           let m = from z h k in
@@ -110,7 +110,7 @@ module _ (lev : ℕ → ℕ) (spot : ℕ → ℤ) (D : ℕ) (some : 1 ≤ D) whe
           record {
             left_in = omega (arith, is_same a a refl);
             right_in = omega (arith, is_same b b refl);
-            one_level_lem = h.0 ∙ sym h.1.0;
+            one_level = h.0 ∙ sym h.1.0;
             left = not-le (spot a) (spot b) (left_not spot D some a b r.0.0);
             none_between = λ z k n.
                 ⊎_elim (λ e. inl (subst (λ (v : ℕ). spot v ≤ℤ spot a) (sym e) (≤ℤ_refl (spot a))))
@@ -123,7 +123,7 @@ module _ (lev : ℕ → ℕ) (spot : ℕ → ℤ) (D : ℕ) (some : 1 ≤ D) whe
           record {
             left_in = omega (arith, B.left_in);
             right_in = omega (arith, B.right_in);
-            one_level_lem = B.one_level_lem;
+            one_level = B.one_level;
             left = B.left;
             none_between = λ z k n.
                 ⊎_elim
@@ -179,7 +179,7 @@ module _ (lev : ℕ → ℕ) (spot : ℕ → ℤ) (D : ℕ) (some : 1 ≤ D) whe
   levels-named : (i : ℕ) (ls : List (List ℕ)) → Leveled lev i ls → All (Apart spot D) (pairs ls) → (x y : ℕ) → Within lev spot (together ls) x y → 1 ≤ pair_count x y (pairs ls)
   levels-named i [] h s x y B = absurd (omega (arith, B.left_in))
   levels-named i (l ∷ ls) h s x y B =
-      let e = sym B.one_level_lem in
+      let e = sym B.one_level in
       let whole = pair_count-append x y (side_by_side l) (pairs ls) in
       ⊎_elim
       (λ c.

@@ -31,7 +31,7 @@ use Rattle.rule.proofs.OnLevel.{OnLevel}
 use Rattle.rule.proofs.Exact.{Measured, exact-dots, join-exact}
 use Rattle.rule.proofs.Across.{across}
 use Rattle.rule.proofs.Promises.{measured-neighbours, part_at}
-use Rattle.rule.proofs.LastJoin.{LastOf, Parent, earlier, latest, row, new, met, row_levels_lem, child_levels_lem, row_kept, child-kept, extra-is, origin, row-place, row-level, child-place, child-level, two-or-more}
+use Rattle.rule.proofs.LastJoin.{LastOf, Parent, earlier, latest, row, new, met, row_levels, child_levels, row_kept, child-kept, extra-is, origin, row-place, row-level, child-place, child-level, two-or-more}
 
 -- ---- pairs that a part of the forest measures are measured
 
@@ -93,10 +93,10 @@ module _ (D : Spacing) {t : List ℕ} {v : ℕ} (P : Parent t v) where
   child = alone L.last (start D.need old L.last) below
 
   abbrev xs : List (List Dot)
-  xs = row_levels_lem D P
+  xs = row_levels D P
 
   abbrev ys : List (List Dot)
-  ys = child_levels_lem D P
+  ys = child_levels D P
 
   abbrev m : ℕ → ℕ
   m = shares (width old) (met D P)
@@ -213,8 +213,8 @@ module _ (D : Spacing) {t : List ℕ} {v : ℕ} (P : Parent t v) where
       q : (e : Dot) × (l : ℕ) × OnLevel e l ys × (e.node ≡ y)
       q = names-on child ys (nodes-dots (width old) (pos 0) child) y (subst (λ (f : Forest). 1 ≤ count y (preorder (node L.last f nil))) (sym (names-draw D L.below)) cy)
 
-      one_level_lem : q.1 ≡ p.1
-      one_level_lem =
+      one_level : q.1 ≡ p.1
+      one_level =
           omega (arith, row-level D P p.2, child-level D P q.2, ap (level t) p.3, ap (level t) q.3, same)
 
       left_at : place D t p.0.node ≡ (p.0.place +ℤ pos (m p.0.child)) +ℤ o
@@ -226,7 +226,7 @@ module _ (D : Spacing) {t : List ℕ} {v : ℕ} (P : Parent t v) where
       apart : AtMost (p.0.place +ℤ pos (m p.0.child) +ℤ pos (D.need p.0.node q.0.node + extra)) (q.0.place +ℤ pos k)
       apart =
           across D.need around extra m k (shares-mono (width old) (met D P)) xs ys (row_kept D P).spaced (child-kept D P).spaced
-          (walk-seams xs ys (row-walk extra xs ys (row_kept D P))) p.0 q.0 p.1 p.2 (subst (λ (l : ℕ). OnLevel q.0 l ys) one_level_lem q.2)
+          (walk-seams xs ys (row-walk extra xs ys (row_kept D P))) p.0 q.0 p.1 p.2 (subst (λ (l : ℕ). OnLevel q.0 l ys) one_level q.2)
 
 -- ---- at any node with two or more children
 
