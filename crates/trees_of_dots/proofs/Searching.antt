@@ -4,16 +4,19 @@ use mathlib.Core.Bool.{Bool, true, false, cond}
 use mathlib.Core.List.{List, [], ◌∷◌, ◌++◌, append-nil}
 use Prim.Native.Nat.{ℕ, suc, ◌+◌, ◌≤◌, ◌<◌}
 use native.Mathlib.Omega.{arith}
-use lib.ListN.{length, length-append}
+use lib.IntN.{ℤ}
+use lib.ListN.{length, get_or, length-append}
 use Rattle.tree.specs.Numbers.{up_to}
 use Rattle.second_walk.proofs.EntryForEach.{length-up_to}
 use Rattle.small_trees.specs.SmallTrees.{tree_count}
-use Rattle.plots.specs.Points.{Point}
+use Rattle.plots.specs.Points.{Point, points_of}
+use Rattle.plots.specs.Dots.{Profile}
 use Rattle.trees_of_dots.specs.TreesOfDots.{fits, those, fitting_places, answer_of}
-use Rattle.trees_of_dots.specs.Steps.{TriedAt, with_place, count_of}
+use Rattle.trees_of_dots.specs.Steps.{Plot, TriedAt, with_place, count_of}
 use Rattle.trees_of_dots.specs.declared.Fitting.{Fitting}
 use Rattle.trees_of_dots.specs.declared.Fitting.TheVariants.{Trees, None}
 use Rattle.trees_of_dots.specs.declared.search.Tried.{Tried}
+use Rattle.trees_of_dots.proofs.Listed.{rootless_unfit}
 use Rattle.trees_of_dots.proofs.Those.{those-few, those-onward, none-those}
 
 -- ---- the answer
@@ -86,3 +89,8 @@ module _ (n D : ℕ) (points : List Point) where
     search_end h =
         let all : place ≡ tree_count n = omega (arith, S.within) in
         S.so_far ∙ ap (λ (k : ℕ). answer_of (those (fits n D points) (up_to k))) all
+
+-- without a dot for the root no tree fits
+pub unrooted : (n D : ℕ) (dots : List ℤ) (profile : List ℕ) → Plot n dots D → Profile (points_of dots) profile → get_or profile 0 0 ≡ 0
+    → answer_of (fitting_places n D (points_of dots)) ≡ None
+unrooted n D dots profile P counted none = sym (search_none n D (points_of dots) (λ q h. rootless_unfit n q P.few h dots D P profile counted none))

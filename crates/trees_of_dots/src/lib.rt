@@ -1,4 +1,6 @@
 // From dots back to a tree: which of all ordered trees of 1 to 8 nodes have just these dots as their layout.
+#![tactic(auto)]
+
 ghost use Rattle.std.specs.Prelude.{◌≡◌};
 ghost use Rattle.trees_of_dots.specs.TreesOfDots.{refusal, TreesOfDots, values_of};
 
@@ -8,20 +10,20 @@ use plots::dots_wrong;
 use search::search;
 
 // The trees that fit: the lowest place of one in the list of the trees of so many nodes, and how many there are; or none.
-#[derive(Drop)]
+#[derive(Clone, Copy)]
 pub enum Fitting {
     Trees { lowest: u16, count: u16 },
     None,
 }
 
-#[derive(Drop)]
+#[derive(Clone, Copy)]
 pub struct Found {
     pub number: u16,
     pub fitting: Fitting,
 }
 
 // The same in plain fields: a count of 0 is none.
-#[derive(Drop)]
+#[derive(Clone, Copy)]
 pub struct Values {
     pub number: u16,
     pub lowest: u16,

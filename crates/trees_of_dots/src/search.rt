@@ -15,7 +15,7 @@ use small_trees::levels::{WAYS, choose, ways};
 use small_trees::links::link;
 
 // Whether the tree at a place fits, and how many places on the search goes.
-#[derive(Drop)]
+#[derive(Clone, Copy)]
 pub struct Tried {
     pub fits: bool,
     pub step: u16,
@@ -130,6 +130,7 @@ fn with_place(found: Fitting, place: u16) -> Fitting
 }
 
 // The trees that fit, from the first place of the list to the last. Without a dot for the root there is none.
+#[tactic(auto, using(crate::proofs::Searching::unrooted))]
 pub fn search(nodes: usize, dots: &[i32], separation: u16) -> Fitting
     requires { Plot nodes dots.now separation }
     ensures { result ≡ answer_of (fitting_places nodes separation (points_of dots.now)) }
