@@ -1,5 +1,7 @@
 // The C interface. Each function is the operation of its name: it returns the number, and stores the other result fields through
 // its last parameters. `hiwenoka_list_sheet` alone has no number: it writes what is printed, and returns the number of bytes.
+#![tactic(auto)]
+
 ghost use Rattle.tree.specs.Operations.{CheckTable, Mirror, Renumber};
 ghost use Rattle.sheet.specs.Read.{SheetRead};
 ghost use Rattle.newick.specs.Read.{NewickRead};
