@@ -11,7 +11,7 @@ ghost use Rattle.layout.specs.Operation.{slices, answer, distance_conditions, ro
 
 mod clear;
 
-#[derive(Drop)]
+#[derive(Clone, Copy)]
 pub struct Drawn {
     pub number: u16,
     pub nodes: u16,

@@ -12,7 +12,7 @@ ghost use Rattle.second_walk.specs.SecondWalk as walk;
 
 use level_order::field;
 
-#[derive(Drop)]
+#[derive(Clone, Copy)]
 pub struct Settled {
     pub levels: u16,
     pub least: i32,

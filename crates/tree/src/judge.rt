@@ -11,7 +11,7 @@ pub const SMALL_NODES: usize = 64;
 
 pub const MOST_NODES: usize = 1024;
 
-#[derive(Drop)]
+#[derive(Clone, Copy)]
 pub struct Found {
     pub bad: bool,
     pub repeated: bool,

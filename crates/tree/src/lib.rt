@@ -10,7 +10,7 @@ mod turn;
 
 use judge::{MOST_NODES, SMALL_ENTRIES, SMALL_NODES};
 
-#[derive(Drop)]
+#[derive(Clone, Copy)]
 pub struct Checked {
     pub number: u16,
     pub nodes: u16,

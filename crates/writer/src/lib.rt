@@ -16,7 +16,7 @@ use sheet::layout::blocks_for;
 use sheet::walk::first_row;
 
 // What writing a sheet gives: 0 with the count of bytes written, or the number of a refusal with 0.
-#[derive(Drop)]
+#[derive(Clone, Copy)]
 pub struct Written {
     pub number: u16,
     pub bytes: u16,
