@@ -95,12 +95,44 @@ fn functions() -> Functions {
     functions_of(&String::from_utf8(output.stdout).expect("objdump writes text"))
 }
 
+/// The places in the code that can come next after the instruction at a place.
+fn next_places(code: &[Instruction], place: usize) -> Vec<usize> {
+    let one = &code[place];
+    let jumped = one.leads_to.filter(|_| !one.linked);
+    let led = jumped.and_then(|to| code.iter().position(|next| next.address == to));
+    let goes_on = !one.name.starts_with("ret") && one.name != "jmp" && place + 1 < code.len();
+    led.into_iter()
+        .chain(goes_on.then_some(place + 1))
+        .collect()
+}
+
+/// Whether the code comes from one place to another: a jump back to a way out, which does not come
+/// to the jump again, is no loop.
+fn comes_to(code: &[Instruction], start: u64, end: u64) -> bool {
+    let mut seen = vec![false; code.len()];
+    let mut open: Vec<usize> = code
+        .iter()
+        .position(|one| one.address == start)
+        .into_iter()
+        .collect();
+    while let Some(place) = open.pop() {
+        if code[place].address == end {
+            return true;
+        }
+        if !std::mem::replace(&mut seen[place], true) {
+            open.extend(next_places(code, place));
+        }
+    }
+    false
+}
+
 /// The stretches of code that are run again: each from an instruction that a jump leads back to, to
 /// the jump. Two that overlap, neither within the other, are one loop with two ways back.
 fn loops(code: &[Instruction]) -> Vec<(u64, u64)> {
     let mut loops: Vec<(u64, u64)> = Vec::new();
     for jump in code {
-        let Some(mut start) = jump.leads_to.filter(|start| *start <= jump.address) else {
+        let back = jump.leads_to.filter(|start| *start <= jump.address);
+        let Some(mut start) = back.filter(|start| comes_to(code, *start, jump.address)) else {
             continue;
         };
         let mut end = jump.address;

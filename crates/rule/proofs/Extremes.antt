@@ -145,7 +145,7 @@ module _ (D : Spacing) (t : List ℕ) (accepted : table_number t ≡ 0) where
   -- Where no two of the table's nodes need more than W,
   module _ (W : ℕ) (most : (a b : ℕ) → a < nodes t → b < nodes t → D.need a b ≤ W) where
     -- none stands further right of another than the nodes below the root may span
-    places-near : (v w : ℕ) → v < nodes t → w < nodes t → AtMost (place D t v) (place D t w +ℤ pos (span W D.extra (nodes t - 1)))
+    pub places-near : (v w : ℕ) → v < nodes t → w < nodes t → AtMost (place D t v) (place D t w +ℤ pos (span W D.extra (nodes t - 1)))
     unfolding drawn
     places-near v w hv hw =
         let S = stands_at D t accepted v hv in

@@ -5,7 +5,7 @@ use mathlib.Core.List.{List, []}
 use Prim.Native.Nat.{ℕ, zero, suc, ◌+◌, ◌*◌, ◌/◌, ◌≤◌}
 use native.Mathlib.Nat.{not-suc-le-zero, le_trans, mul-le-mul_left, mul-le-mul_right}
 use native.Mathlib.Omega.{arith}
-use lib.IntN.{pos}
+use lib.IntN.{ℤ, pos}
 use Rattle.distance.specs.Needed.{Distance}
 use Rattle.tree.specs.Forest.{Forest, nil, node, size}
 use Rattle.tree.proofs.Joined.{size-join}
@@ -14,7 +14,7 @@ use Rattle.rule.specs.Join.{Spacing, Meeting, shares, added, movement, start, al
 use Rattle.rule.specs.Rule.{draw_onto, draw}
 use Rattle.rule.proofs.Signed.{parts_add}
 use Rattle.rule.proofs.Names.{names, names-join, names-draw}
-use Rattle.rule.proofs.Moving.{shift_by, row_dots-join}
+use Rattle.rule.proofs.Moving.{shift_by, settle, row_dots-join, dots-row}
 use Rattle.rule.proofs.Shares.{shares-mono}
 use Rattle.rule.proofs.OnLevel.{on_some}
 use Rattle.rule.proofs.Spacing.{Row, Child, row-join, row-none, row-draw_onto, row-walk, alone-child}
@@ -134,6 +134,13 @@ module _ (D : Spacing) (W : ℕ) (most : (a b : ℕ) → D.need a b ≤ W) where
       let B = row-draw_onto D none f row-none in
       narrow-draw_onto (join D row v (draw_onto D none f)) g (row-join D row v (draw_onto D none f) R B)
       (narrow-row-join D W most row v (draw_onto D none f) R B n (narrow-draw_onto none f row-none narrow-none))
+
+  -- a drawing of m nodes
+  pub narrow-draw : (i : ℕ) (o : ℤ) (f : Forest) → Narrow (span W D.extra (size f)) (dots i o (draw D f))
+  narrow-draw i o f =
+      rw (dots-row i 0 o (draw D f))
+      (narrow-map (span W D.extra (size f)) o (settle i o) (λ e. refl) (row_dots 0 (draw D f))
+      (rw (names-draw D f) at (narrow-draw_onto none f row-none narrow-none)))
 
   -- a tree with m nodes below its root, which makes it no wider
   pub narrow-tree : (v : ℕ) (f : Forest) → Narrow (span W D.extra (size f)) (dots 0 (pos 0) (draw D (node v f nil)))
