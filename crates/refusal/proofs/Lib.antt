@@ -3,3 +3,4 @@
 pub mod Laws
 pub mod After
 pub mod Truth
+pub mod Numbers
