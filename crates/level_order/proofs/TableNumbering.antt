@@ -3,19 +3,26 @@ use mathlib.Core.Path.{◌≡◌, sym, ap, ap₂, ◌∙◌, subst, subst₂}
 use mathlib.Core.List.{List}
 use Prim.Native.Nat.{ℕ, zero, suc, ◌+◌, ◌-◌, ◌*◌, ◌≤◌, ◌<◌}
 use native.Mathlib.Omega.{arith}
-use lib.IntN.{ℤ, pos}
+use lib.Dec.{T}
+use lib.IntN.{ℤ, pos, nat_abs}
 use lib.ListN.{length}
+use lib.Signed.{non_neg}
+use mir.Syntax.{w64}
+use mir.Val.{Fits}
 use Rattle.distance.specs.Needed.{half_width}
 use Rattle.tree.specs.Table.{nodes}
 use Rattle.tree.specs.Forest.{Forest, size, roots, children, tree_of}
 use Rattle.tree.specs.Levels.{children_of}
 use Rattle.tree.specs.WellFormed.{table_number}
 use Rattle.tree.proofs.Stands.{one-root, accepted-numbers, accepted-size}
+use Rattle.tree.proofs.Followed.{accepted-linked}
 use Rattle.tree.proofs.Walked.{Leads, accepted-leads}
 use Rattle.level_order.specs.LevelOrder.{waiting, node_at, first_at}
 use Rattle.level_order.specs.Fields.{get, NODE}
 use Rattle.level_order.specs.Appending.{queued, appended, settled, Appended}
-use Rattle.level_order.specs.Numbered.{NumberedFrom}
+use Rattle.level_order.specs.Numbered.{Accepted, NumberedFrom}
+use Rattle.level_order.proofs.Signed32.{stored, unsigned, unsigned-fits}
+use Rattle.level_order.proofs.Queued.{queued-length}
 use Rattle.level_order.proofs.Waiting.{root_count, waiting-node, waiting-leads, node_at-all}
 use Rattle.level_order.proofs.FirstAt.{first_at-suc, first_at-past, first_at-end}
 use Rattle.level_order.proofs.Positions.{within}
@@ -34,7 +41,10 @@ module _ (t : List ℕ) (separation : ℕ) (hs : List ℕ) where
   abbrev pub need : ℕ → ℕ
   need q = reach_of q + half q
 
-module _ (t : List ℕ) (separation : ℕ) (hs : List ℕ) (accepted : table_number t ≡ 0) where
+module _ {t : List ℕ} {separation : ℕ} {hs : List ℕ} (G : Accepted t separation hs) where
+  accepted : table_number t ≡ 0
+  accepted = G.accepted
+
   abbrev pub tree : Forest
   tree = tree_of t
 
@@ -118,3 +128,53 @@ module _ (t : List ℕ) (separation : ℕ) (hs : List ℕ) (accepted : table_num
         let T₂ : Numbering tree needs (nodes t) start work₂ (suc p) (tail + length row) =
         subst (λ (w : List ℤ). Numbering tree needs (nodes t) start w (suc p) (tail + length row)) (sym second) T₁ in
         subst₂ (λ (q k : ℕ). Numbering tree needs (nodes t) start work₂ q k) suc-p (sym ends) T₂
+
+  -- a turn takes position p, whose node is read as z: the node's children fit, and so do the numbers
+  pub record Taken (work : List ℤ) (p tail reach : ℕ) (z : ℤ) : Type 0 where
+    pub few : nodes t ≤ 1024
+    pub long : 16 * nodes t ≤ length work
+    pub fits : T (non_neg (stored z)) × Fits w64 (nat_abs (stored z))
+    pub named : nat_abs (stored z) ≡ node_at tree p
+    pub inside : nat_abs (stored z) < nodes t
+    pub children : tail + length (children_of t (nat_abs (stored z))) ≤ nodes t
+    pub narrow : half_width hs (nat_abs (stored z)) ≤ 256
+    pub high : separation ≤ 1024
+    pub short : reach ≤ 1280
+
+  pub taken : (before start work : List ℤ) (p tail reach : ℕ) (z : ℤ) → 16 * nodes t ≤ length before → start ≡ queued before 0 0 0
+      → Numbering tree needs (nodes t) start work p tail → reach ≡ reach_of t separation hs p → p < nodes t → z ≡ get work NODE p
+      → Taken work p tail reach z
+  taken before start work p tail reach z room queue N reached more read =
+      record {
+        few = few;
+        long = omega (arith, N.size, long);
+        fits = unsigned-fits z (node_at tree p) node small;
+        named = named;
+        inside = omega (arith, named, inside);
+        children = omega (arith, ap (λ (v : ℕ). length (children_of t v)) named, table-room N long more);
+        narrow = G.narrow (nat_abs (stored z));
+        high = G.high;
+        short = omega (arith, reached, reaches p);
+      }
+    where
+      few : nodes t ≤ 1024
+      few = (accepted-linked t accepted).few
+
+      long : 16 * nodes t ≤ length start
+      long = omega (arith, room, ap length queue, queued-length before 0 0 0)
+
+      inside : node_at tree p < nodes t
+      inside = node-inside N long more
+
+      node : z ≡ pos (node_at tree p)
+      node = read ∙ table-node N long more
+
+      small : node_at tree p < 2147483648
+      small = omega (arith, inside, few)
+
+      named : nat_abs (stored z) ≡ node_at tree p
+      named = unsigned z (node_at tree p) node small
+
+      reaches : (q : ℕ) → reach_of t separation hs q ≤ 1280
+      reaches zero = omega (arith, G.high)
+      reaches (suc q) = omega (arith, G.high, G.narrow (node_at tree q))

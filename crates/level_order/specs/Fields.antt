@@ -1,5 +1,7 @@
 -- The working slice: sixteen entries for each position.
 use Rattle.std.specs.Prelude.{ℕ, ◌+◌, ◌*◌, List, ℤ, pos, get_or, set}
+use Rattle.level_order.specs.declared.field.Field.{Field}
+use Rattle.level_order.specs.declared.field.Field.TheVariants.{Node, First, Count, Parent, Need, Place, Left, Right, Ancestor, Shift, Change, Level}
 
 -- the place of a field of position p in the slice
 abbrev pub cell : ℕ → ℕ → ℕ
@@ -55,3 +57,18 @@ CHANGE = 10
 -- the second walk
 abbrev pub LEVEL : ℕ
 LEVEL = 11
+
+-- where a field stands among the sixteen
+abbrev pub offset : Field → ℕ
+offset Node = NODE
+offset First = FIRST
+offset Count = COUNT
+offset Parent = PARENT
+offset Need = NEED
+offset Place = PLACE
+offset Left = LEFT
+offset Right = RIGHT
+offset Ancestor = ANCESTOR
+offset Shift = SHIFT
+offset Change = CHANGE
+offset Level = LEVEL

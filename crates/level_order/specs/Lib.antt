@@ -4,3 +4,4 @@ pub mod LevelOrder
 pub mod Fields
 pub mod Appending
 pub mod Numbered
+pub mod Spaced

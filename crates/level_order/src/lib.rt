@@ -7,11 +7,14 @@ ghost use Rattle.tree.specs.Table.{nodes};
 ghost use Rattle.tree.specs.Levels.{children_of};
 ghost use Rattle.tree.specs.WellFormed.{table_number};
 ghost use Rattle.level_order.specs.Appending.{queued, settled, Appended};
-ghost use Rattle.level_order.specs.Numbered.{Accepted, NumberedFrom};
+ghost use Rattle.level_order.specs.Numbered.{NumberedFrom};
+ghost use Rattle.level_order.specs.Spaced.{table_of};
 
 pub mod field;
+pub mod spaced_tree;
 
-use field::{ANCESTOR, CHANGE, COUNT, FIRST, NEED, NODE, PARENT, SHIFT, get, put};
+use field::{Field, get, put};
+use spaced_tree::SpacedTree;
 
 // Puts node c, a child of position p, at position `tail`.
 fn queue(work: &mut [i32], p: usize, tail: usize, c: usize)
@@ -19,8 +22,8 @@ fn queue(work: &mut [i32], p: usize, tail: usize, c: usize)
     requires tail_in_bounds { 16 * (tail + 1) ≤ length work.old }
     ensures { work.new ≡ queued work.old p tail c }
 {
-    put(work, tail, NODE, c as i32);
-    put(work, tail, PARENT, p as i32);
+    put(work, tail, Field::Node, c as i32);
+    put(work, tail, Field::Parent, p as i32);
 }
 
 // Puts the children of node v, which is at position p, at the positions from `tail` on, and says where the queue ends now.
@@ -49,33 +52,29 @@ fn settle(work: &mut [i32], p: usize, first: usize, count: usize, need: u16)
     requires p_in_bounds { 16 * (p + 1) ≤ length work.old }
     ensures { work.new ≡ settled work.old p first count need }
 {
-    put(work, p, FIRST, first as i32);
-    put(work, p, COUNT, count as i32);
-    put(work, p, NEED, need as i32);
-    put(work, p, ANCESTOR, p as i32);
-    put(work, p, SHIFT, 0);
-    put(work, p, CHANGE, 0);
+    put(work, p, Field::First, first as i32);
+    put(work, p, Field::Count, count as i32);
+    put(work, p, Field::Need, need as i32);
+    put(work, p, Field::Ancestor, p as i32);
+    put(work, p, Field::Shift, 0);
+    put(work, p, Field::Change, 0);
 }
 
 // Numbers the nodes of an accepted table in level order, with what each needs from the one before it. `reach` is how far the one before
 // reaches: the separation and its half-width.
-pub fn number(table: &[u16], separation: u16, widths: &[u16], work: &mut [i32])
-    requires accepted { Accepted table.now separation widths.now }
-    requires table_in_bounds { 16 * nodes table.now ≤ length work.old }
-    ensures { NumberedFrom table.now separation widths.now work.old work.new }
+pub fn number(tree: &SpacedTree<'_>, work: &mut [i32])
+    requires { 16 * nodes (table_of tree.now) ≤ length work.old }
+    ensures { NumberedFrom (table_of tree.now) tree.now.separation tree.now.widths.now work.old work.new }
 {
-    let n = table.len() / 2;
     queue(work, 0, 0, 0);
     let mut tail = 1;
-    let mut reach = separation;
-    let mut p = 0;
-    while p < n {
-        let v = get(work, p, NODE) as usize;
-        let end = append(table, work, p, v, tail);
-        let half = widths[v];
+    let mut reach = tree.separation;
+    for p in 0..tree.table.len() / 2 {
+        let v = get(work, p, Field::Node) as usize;
+        let end = append(tree.table, work, p, v, tail);
+        let half = tree.widths[v];
         settle(work, p, tail, end - tail, reach + half);
-        reach = separation + half;
+        reach = tree.separation + half;
         tail = end;
-        p += 1;
     }
 }

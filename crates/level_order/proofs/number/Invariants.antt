@@ -1,6 +1,5 @@
--- `level_order::number` meets its contract. The measure is how many positions are left. Assumes nothing.
+-- `level_order::number` meets its contract. Assumes nothing.
 use mathlib.Core.Path.{◌≡◌}
-use Prim.Native.Nat.{◌-◌}
 use Rattle.tree.specs.Table.{nodes}
 use Rattle.tree.specs.Forest.{tree_of}
 use Rattle.level_order.proofs.Numbering.{Numbering}
@@ -9,7 +8,6 @@ use Rattle.level_order.proofs.number.Given as goal
 
 abbrev pub invariant-loop-p : goal.invariant-loop-p
 invariant-loop-p l =
-    Numbering (tree_of l.table) (need l.table l.separation l.widths) (nodes l.table) l.initial.work l.work l.p l.tail × (l.reach ≡ reach_of l.table l.separation l.widths l.p)
-
-abbrev pub decreases-loop-p : goal.decreases-loop-p
-decreases-loop-p l = nodes l.table - l.p
+    let t = l.tree.table.now in
+    let hs = l.tree.widths.now in
+    Numbering (tree_of t) (need t l.tree.separation hs) (nodes t) l.initial.work l.work l.p l.tail × (l.reach ≡ reach_of t l.tree.separation hs l.p)
