@@ -5,12 +5,13 @@
 ghost use Rattle.std.specs.Prelude.{◌≡◌, ◌+◌, ◌-◌, ◌*◌, ◌≤◌, ◌<◌, pos, length};
 ghost use Rattle.rule.specs.Join.{above0};
 ghost use Rattle.level_order.specs.Fields;
+ghost use Rattle.level_order.specs.Fields.{offset};
 ghost use Rattle.descent.specs.Descent;
 ghost use Rattle.descent.specs.Descent.{Reads, Modest, Looked, Level, Threads, Steps, top_level, lower, too_close, worked, is_end, threaded, new_default};
 
 mod owner;
 
-use level_order::field::{ANCESTOR, COUNT, FIRST, LEFT, NEED, PLACE, RIGHT, get, put};
+use level_order::field::{Field, get, put};
 use shifts::share;
 
 // Where the walk stands: on one level the row's nodes are at the positions from a to b and the child's from b to e. The places are those
@@ -28,9 +29,9 @@ pub struct Stand {
 }
 
 // A field that holds a position or a count.
-pub fn position(work: &[i32], p: usize, field: usize) -> usize
-    requires { Reads work.now field p }
-    ensures { result ≡ above0 (Fields.get work.now field p) }
+pub fn position(work: &[i32], p: usize, field: Field) -> usize
+    requires { Reads work.now (offset field) p }
+    ensures { result ≡ above0 (Fields.get work.now (offset field) p) }
 {
     get(work, p, field) as usize
 }
@@ -40,7 +41,7 @@ pub fn past(work: &[i32], p: usize) -> usize
     requires { (Reads work.now Fields.FIRST p) × (Reads work.now Fields.COUNT p) }
     ensures { result ≡ above0 (Fields.get work.now Fields.FIRST p) + above0 (Fields.get work.now Fields.COUNT p) }
 {
-    position(work, p, FIRST) + position(work, p, COUNT)
+    position(work, p, Field::First) + position(work, p, Field::Count)
 }
 
 // The top level: the first child, which stands at 0, the last child joined, and the new child, which starts after it at the distance that it
@@ -50,8 +51,8 @@ pub fn begin(work: &[i32], f: usize, c: usize) -> Stand
     requires modest { (Modest (Fields.get work.now Fields.PLACE (c - 1))) × (Modest (Fields.get work.now Fields.NEED c)) }
     ensures { result ≡ top_level work.now f c }
 {
-    let before = get(work, c - 1, PLACE);
-    let start = before + get(work, c, NEED);
+    let before = get(work, c - 1, Field::Place);
+    let start = before + get(work, c, Field::Need);
     Stand {
         a: f,
         b: c,
@@ -72,14 +73,14 @@ pub fn meet(work: &mut [i32], s: Stand, f: usize, c: usize, default: usize) -> i
 {
     let b = s.b;
     let e = s.e;
-    let close = s.right + get(work, b, NEED) - (s.left + s.moved);
+    let close = s.right + get(work, b, Field::Need) - (s.left + s.moved);
     if close <= 0 {
-        put(work, e - 1, ANCESTOR, c as i32);
+        put(work, e - 1, Field::Ancestor, c as i32);
         return 0;
     }
     let i = owner::owner(work, b - 1, f, c, default);
     share(work, i, c, close as usize);
-    put(work, e - 1, ANCESTOR, c as i32);
+    put(work, e - 1, Field::Ancestor, c as i32);
     close
 }
 
@@ -91,8 +92,8 @@ pub fn ended(work: &[i32], s: Stand) -> bool
     let a = s.a;
     let b = s.b;
     let e = s.e;
-    let next = position(work, b, FIRST);
-    if position(work, a, FIRST) == next {
+    let next = position(work, b, Field::First);
+    if position(work, a, Field::First) == next {
         return true;
     }
     next == past(work, e - 1)
@@ -108,13 +109,13 @@ pub fn descend(work: &[i32], s: Stand) -> Stand
     let b = s.b;
     let e = s.e;
     Stand {
-        a: position(work, a, FIRST),
-        b: position(work, b, FIRST),
+        a: position(work, a, Field::First),
+        b: position(work, b, Field::First),
         e: past(work, e - 1),
-        right: s.right + get(work, b - 1, RIGHT),
-        left: s.left + get(work, b, LEFT),
-        outer_left: s.outer_left + get(work, a, LEFT),
-        outer_right: s.outer_right + get(work, e - 1, RIGHT),
+        right: s.right + get(work, b - 1, Field::Right),
+        left: s.left + get(work, b, Field::Left),
+        outer_left: s.outer_left + get(work, a, Field::Left),
+        outer_right: s.outer_right + get(work, e - 1, Field::Right),
         moved: s.moved,
     }
 }
@@ -138,15 +139,15 @@ pub fn thread(work: &mut [i32], s: Stand, f: usize, c: usize, default: usize) ->
     let a = s.a;
     let b = s.b;
     let e = s.e;
-    let next = position(work, b, FIRST);
-    if position(work, a, FIRST) < next {
-        let step = s.right + get(work, b - 1, RIGHT) - (s.outer_right + s.moved);
-        put(work, e - 1, RIGHT, step);
+    let next = position(work, b, Field::First);
+    if position(work, a, Field::First) < next {
+        let step = s.right + get(work, b - 1, Field::Right) - (s.outer_right + s.moved);
+        put(work, e - 1, Field::Right, step);
         return default;
     }
     if next < past(work, e - 1) {
-        let step = s.left + get(work, b, LEFT) + s.moved - s.outer_left;
-        put(work, a, LEFT, step);
+        let step = s.left + get(work, b, Field::Left) + s.moved - s.outer_left;
+        put(work, a, Field::Left, step);
         return c;
     }
     default

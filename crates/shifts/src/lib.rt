@@ -5,16 +5,16 @@
 ghost use Rattle.std.specs.Prelude.{◌≡◌, true, ℕ, ◌-◌, ◌*◌, ◌≤◌, ◌<◌, nat_abs, length};
 ghost use Rattle.std.specs.Int.Signed.{non_neg};
 ghost use Rattle.level_order.specs.Fields;
-ghost use Rattle.level_order.specs.Fields.{cell};
+ghost use Rattle.level_order.specs.Fields.{cell, offset};
 ghost use Rattle.shifts.specs.Shifts.{added, shared, Bounded, Executed};
 
-use level_order::field::{CHANGE, PLACE, SHIFT, get, put};
+use level_order::field::{Field, get, put};
 
 // Adds to a field of position p.
-fn add(work: &mut [i32], p: usize, field: usize, amount: i32)
-    requires field_in_bounds { cell p field < length work.old }
-    requires p_bound { (nat_abs (Fields.get work.old field p) ≤ 16777216) × (nat_abs amount ≤ 16777216) }
-    ensures { work.new ≡ added work.old field p amount }
+fn add(work: &mut [i32], p: usize, field: Field, amount: i32)
+    requires field_in_bounds { cell p (offset field) < length work.old }
+    requires p_bound { (nat_abs (Fields.get work.old (offset field) p) ≤ 16777216) × (nat_abs amount ≤ 16777216) }
+    ensures { work.new ≡ added work.old (offset field) p amount }
 {
     let before = get(work, p, field);
     put(work, p, field, before + amount);
@@ -32,10 +32,10 @@ pub fn share(work: &mut [i32], i: usize, c: usize, s: usize)
     let gaps = c - i;
     let q = s / gaps;
     let r = s - gaps * q;
-    add(work, c, SHIFT, s as i32);
-    add(work, c, CHANGE, -((q + 1) as i32));
-    add(work, c - r, CHANGE, 1);
-    add(work, i, CHANGE, q as i32);
+    add(work, c, Field::Shift, s as i32);
+    add(work, c, Field::Change, -((q + 1) as i32));
+    add(work, c - r, Field::Change, 1);
+    add(work, i, Field::Change, q as i32);
 }
 
 // Moves the children at the positions from f to end by what is pending, and counts their places from the middle of the row.
@@ -46,15 +46,15 @@ pub fn execute(work: &mut [i32], f: usize, end: usize)
     requires bounded { Bounded f end work.old }
     ensures { Executed f end work.old work.new }
 {
-    let middle = get(work, end - 1, PLACE) / 2;
+    let middle = get(work, end - 1, Field::Place) / 2;
     let mut sum: i32 = 0;
     let mut rate: i32 = 0;
     let mut p = end;
     while f < p {
         p -= 1;
-        let place = get(work, p, PLACE);
-        put(work, p, PLACE, place + sum - middle);
-        rate += get(work, p, CHANGE);
-        sum = sum + get(work, p, SHIFT) + rate;
+        let place = get(work, p, Field::Place);
+        put(work, p, Field::Place, place + sum - middle);
+        rate += get(work, p, Field::Change);
+        sum = sum + get(work, p, Field::Shift) + rate;
     }
 }

@@ -4,7 +4,7 @@ use mathlib.Core.List.{List}
 use native.Mathlib.Omega.{arith}
 use lib.IntN.{ℤ, ◌+ℤ◌}
 use Rattle.rule.proofs.Signed.{nat_abs_add}
-use Rattle.level_order.specs.Fields.{get, put}
+use Rattle.level_order.specs.Fields.{get, put, offset}
 use Rattle.level_order.proofs.Signed32.{stored, Held, told, held, plus}
 use Rattle.shifts.specs.Shifts.{added}
 use Rattle.shifts.proofs.add.Goals as goal
@@ -21,7 +21,7 @@ module _ (c : After-get) where
   work = c.args.work.now
 
   abbrev before : ℤ
-  before = get work c.args.field c.args.p
+  before = get work (offset c.args.field) c.args.p
 
   abbrev amount : ℤ
   amount = c.args.amount
@@ -38,4 +38,4 @@ pub returns : goal.returns
 unfolding added
 returns c =
     let g = c.before.before.before in
-    c.put.ensures ∙ ap (put (work g) c.args.field c.args.p) (sum g).read
+    c.put.ensures ∙ ap (put (work g) (offset c.args.field) c.args.p) (sum g).read
