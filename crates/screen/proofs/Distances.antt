@@ -1,7 +1,8 @@
 -- The distances of an accepted view: what the float operations give is the whole number of eighths, and the tests of the edges are tests of
 -- it. Assumes nothing.
 use mathlib.Core.Path.{◌≡◌, refl, sym, ap, ap₂, ◌∙◌}
-use mathlib.Core.Bool.{Bool, true, false, ◌&&◌, cond}
+use Rattle.std.specs.Bool.{then_some}
+use mathlib.Core.Bool.{Bool, true, false, ◌&&◌}
 use Prim.Native.Nat.{ℕ, ◌*◌, ◌^◌, ◌≤◌, ◌<◌}
 use native.Mathlib.Nat.{mul_assoc, mul-le-mul, mul-le-mul_right, le_of_mul-le-mul_right, lt_of_not-le, not-le_of_lt}
 use native.Mathlib.Omega.{arith}
@@ -13,10 +14,8 @@ use lib.Ieee.Exact.{HasValue}
 use borrow.Author.Tests.{leb-true, leb-false, le-leb, lt-leb}
 use Rattle.rule.proofs.Signed.{nat_abs_sub}
 use Rattle.screen.specs.Fraction.{signed, whole_part, negative, nearest}
-use Rattle.screen.specs.Screen.{units_down, eightfold, eight_across, eight_down, seen_at, distance, screen_number}
+use Rattle.screen.specs.Screen.{units_down, eightfold, eight_across, eight_down, at, seen_at, distance, screen_number}
 use Rattle.screen.specs.declared.View.{View}
-use Rattle.screen.specs.declared.Seen.{Seen}
-use Rattle.screen.specs.declared.Seen.TheVariants.{On, Off}
 use Rattle.screen.proofs.Compared.{within, within-size}
 use Rattle.screen.proofs.Signed.{size-signed, size-times}
 use Rattle.screen.proofs.Exact.{of_whole, value_of, sub-nearest, mul-eighths}
@@ -111,13 +110,13 @@ module _ (view : View) (level : ℕ) (place : ℤ) (fits : level < 2 ^ 16) (none
   down_is = distance_is (units_down level) view.down view.zoom level_moderate A.down A.zoom
 
   -- from the two distances and the tests of the edges to where the node is seen
-  pub seen-is : (x y : Float) (u v t : Bool) → x ≡ distance (of_int binary64 place) view.across view.zoom
+  pub seen-is : (x y : Float) (u v : Bool) → x ≡ distance (of_int binary64 place) view.across view.zoom
       → y ≡ distance (of_int binary64 (units_down level)) view.down view.zoom
       → u ≡ within x (fin false 15 (pos 6))
       → v ≡ within y (fin false 135 (pos 2))
-      → (u && v) ≡ t → cond t (On x y) Off ≡ seen_at view level place
+      → then_some (u && v) (at x y) ≡ seen_at view level place
   unfolding seen_at
-  seen-is x y u v t x-is y-is u-is v-is e =
+  seen-is x y u v x-is y-is u-is v-is =
       let at_x : x ≡ nearest (eight_across view place) 8 = x-is ∙ across-is in
       let at_y : y ≡ nearest (eight_down view level) 8 = y-is ∙ down_is in
       let in-width : u ≡ leb (nat_abs (eight_across view place)) (8 * 960) =
@@ -126,4 +125,4 @@ module _ (view : View) (level : ℕ) (place : ℤ) (fits : level < 2 ^ 16) (none
       let in-height : v ≡ leb (nat_abs (eight_down view level)) (8 * 540) =
       v-is ∙ ap (λ (z : Float). within z (fin false 135 (pos 2))) at_y ∙ within-nearest (eight_down view level) 135 2 (lit< tt) down-small
       in
-      ap₂ (λ (b : Bool) (s : Seen). cond b s Off) (sym e ∙ ap₂ ◌&&◌ in-width in-height) (ap₂ On at_x at_y)
+      ap₂ then_some (ap₂ ◌&&◌ in-width in-height) (ap₂ at at_x at_y)

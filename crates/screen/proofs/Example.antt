@@ -1,14 +1,14 @@
 -- Floats of every kind by their bit patterns, as zoom and as centre, and calls at the edges. By computation. Assumes nothing.
 use mathlib.Core.Path.{◌≡◌, refl}
+use Rattle.std.specs.Prelude.{Some, None}
 use mathlib.Core.Bool.{Bool, true, false}
 use mathlib.Core.List.{List, [], ◌∷◌, map}
 use Prim.Native.Nat.{ℕ}
 use lib.IntN.{ℤ, pos, negsuc}
 use lib.Ieee.{Float, nan, fin, binary64, of_bits, round}
 use Rattle.screen.specs.Fraction.{nearest}
-use Rattle.screen.specs.Screen.{is_zoom, is_centre, in_range, screen_number, seen_at, answer, values_of}
+use Rattle.screen.specs.Screen.{is_zoom, is_centre, in_range, screen_number, at, seen_at, answer, values_of}
 use Rattle.screen.specs.declared.View.{View}
-use Rattle.screen.specs.declared.Seen.TheVariants.{On, Off}
 use Rattle.screen.specs.declared.Values.{Values}
 
 -- ---- floats by their bits, and whether they are taken
@@ -110,10 +110,10 @@ sixteen = fin false 1 (pos 4)
 
 -- on screen, so many eighths from the middle; and off
 abbrev on : ℤ → ℤ → Values
-on x y = values_of 0 (On (nearest x 8) (nearest y 8))
+on x y = values_of 0 (Some (at (nearest x 8) (nearest y 8)))
 
 abbrev off : ℕ → Values
-off k = values_of k Off
+off k = values_of k None
 
 -- the edges across, and one unit past them; the edges down; an eighth past the edge, and a unit of eight; seven eighths left of the middle and
 -- above it, and centres that are -0, of which no distance is -0; the farthest centres, places and levels; 18 first, and then 19

@@ -2,7 +2,9 @@
 -- nothing.
 use mathlib.Core.Path.{◌≡◌, refl, sym, ap, ap₂, ◌∙◌}
 use mathlib.Core.Logic.{⊎_elim}
-use mathlib.Core.Bool.{Bool, true, false, ◌&&◌, cond}
+use Rattle.std.specs.Prelude.{Option, Some, None}
+use Rattle.std.specs.Bool.{then_some}
+use mathlib.Core.Bool.{Bool, true, false, ◌&&◌}
 use Prim.Native.Nat.{ℕ, ◌*◌, ◌^◌, ◌≤◌, ◌<◌}
 use native.Mathlib.Omega.{arith}
 use lib.Dec.{leb, lit≤}
@@ -12,11 +14,9 @@ use borrow.Author.Tests.{leb-true, le-leb}
 use Rattle.refusal.proofs.After.{granted-accepted, granted-refused}
 use Rattle.refusal.proofs.Truth.{true-or-false, and_left, and_right}
 use Rattle.screen.specs.Fraction.{whole_part, nearest}
-use Rattle.screen.specs.Screen.{screen_number, units_down, eightfold, eight_across, eight_down, seen_at, answer, OnScreen, OnScreenValues, values_of, distance, Exactly}
+use Rattle.screen.specs.Screen.{screen_number, units_down, eightfold, eight_across, eight_down, at, seen_at, answer, Judged, OnScreen, OnScreenValues, values_of, distance, Exactly}
 use Rattle.screen.specs.declared.View.{View}
 use Rattle.screen.specs.declared.Seen.{Seen}
-use Rattle.screen.specs.declared.Seen.TheVariants.{On, Off}
-use Rattle.screen.specs.declared.Judged.{Judged}
 use Rattle.screen.specs.declared.Values.{Values}
 use Rattle.screen.proofs.Exact.{of_whole, mul-eight, equals_of, equals-nearest}
 use Rattle.screen.proofs.Conditions.{part_of, ZoomIs, CentreIs, Accepted, accepted}
@@ -52,17 +52,17 @@ pub told : (view : View) (level : ℕ) (place : ℤ) (r : Judged) → OnScreen v
 told view level place r S = record { values = ap₂ values_of S.number S.seen }
 
 module _ (view : View) (level : ℕ) (place : ℤ) (v : Values) (S : OnScreenValues view level place v) where
-  number-kept : (k : ℕ) (s : Seen) → (values_of k s).number ≡ k
-  number-kept k (On x y) = refl
-  number-kept k Off = refl
+  number-kept : (k : ℕ) (s : Option Seen) → (values_of k s).number ≡ k
+  number-kept k (Some s) = refl
+  number-kept k None = refl
 
   pub number-returned : v.number ≡ screen_number view place
   number-returned = ap (λ (w : Values). w.number) S.values ∙ number-kept (screen_number view place) (answer view level place)
 
   -- a refusal carries off
-  pub refused-returned : (v.number ≡ 0 → ⊥) → v ≡ values_of v.number Off
+  pub refused-returned : (v.number ≡ 0 → ⊥) → v ≡ values_of v.number None
   refused-returned not-0 =
-      S.values ∙ ap₂ values_of (sym number-returned) (granted-refused (screen_number view place) (seen_at view level place) Off (λ e. not-0 (number-returned ∙ e)))
+      S.values ∙ ap₂ values_of (sym number-returned) (granted-refused (screen_number view place) (seen_at view level place) None (λ e. not-0 (number-returned ∙ e)))
 
   module _ (fits : level < 2 ^ 16) (accepted-call : v.number ≡ 0) where
     none : screen_number view place ≡ 0
@@ -85,18 +85,18 @@ module _ (view : View) (level : ℕ) (place : ℤ) (v : Values) (S : OnScreenVal
     Y = eight_down view level
 
     -- the two edges decide
-    tested : (t : Bool) → (leb (nat_abs X) (8 * 960) && leb (nat_abs Y) (8 * 540)) ≡ t → v ≡ values_of 0 (cond t (On (nearest X 8) (nearest Y 8)) Off)
+    tested : (t : Bool) → (leb (nat_abs X) (8 * 960) && leb (nat_abs Y) (8 * 540)) ≡ t → v ≡ values_of 0 (then_some t (at (nearest X 8) (nearest Y 8)))
     unfolding seen_at
     tested t e =
         S.values
-        ∙ ap₂ values_of none (granted-accepted (screen_number view place) (seen_at view level place) Off none ∙ ap (λ (b : Bool). cond b (On (nearest X 8) (nearest Y 8)) Off) e)
+        ∙ ap₂ values_of none (granted-accepted (screen_number view place) (seen_at view level place) None none ∙ ap (λ (b : Bool). then_some b (at (nearest X 8) (nearest Y 8))) e)
 
     -- on where they are inside the edges, with the distances as values
     pub on-returned : Inside X Y
-        → v ≡ values_of 0 (On (distance (of_int binary64 place) view.across view.zoom) (distance (of_int binary64 (units_down level)) view.down view.zoom))
+        → v ≡ values_of 0 (Some (at (distance (of_int binary64 place) view.across view.zoom) (distance (of_int binary64 (units_down level)) view.down view.zoom)))
     on-returned inside =
         tested true (ap₂ ◌&&◌ (le-leb (nat_abs X) (8 * 960) inside.across) (le-leb (nat_abs Y) (8 * 540) inside.down))
-        ∙ ap (values_of 0) (ap₂ On (sym (across-is view level place fits none)) (sym (down_is view level place fits none)))
+        ∙ ap₂ (λ (x y : Float). values_of 0 (Some (at x y))) (sym (across-is view level place fits none)) (sym (down_is view level place fits none))
 
     inside_edges_lem : (leb (nat_abs X) (8 * 960) && leb (nat_abs Y) (8 * 540)) ≡ true → Inside X Y
     inside_edges_lem e =
@@ -106,6 +106,6 @@ module _ (view : View) (level : ℕ) (place : ℤ) (v : Values) (S : OnScreenVal
         }
 
     -- and off where they are not
-    pub off-returned : (Inside X Y → ⊥) → v ≡ values_of 0 Off
+    pub off-returned : (Inside X Y → ⊥) → v ≡ values_of 0 None
     off-returned outside =
         ⊎_elim (λ e. absurd (outside (inside_edges_lem e))) (λ e. tested false e) (true-or-false (leb (nat_abs X) (8 * 960) && leb (nat_abs Y) (8 * 540)))

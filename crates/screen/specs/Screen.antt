@@ -1,14 +1,15 @@
 -- A view of the studio screen, and where it shows a node.
-use Rattle.std.specs.Prelude.{◌≡◌, Bool, false, cond, not, ◌&&◌, ◌||◌, [], ◌∷◌, ℕ, ◌*◌, leb, ℤ, pos, ◌-ℤ◌, ◌*ℤ◌, nat_abs, Float}
+use Rattle.std.specs.Prelude.{◌≡◌, Bool, false, not, ◌&&◌, ◌||◌, [], ◌∷◌, ℕ, ◌*◌, leb, ℤ, pos, ◌-ℤ◌, ◌*ℤ◌, nat_abs, Float, Option, Some, None, Result}
+use Rattle.std.specs.Bool.{then_some}
 use Rattle.std.specs.Float.{fin, binary64}
 use Rattle.std.specs.Float.Ieee.{sub, mul, of_int}
 use Rattle.refusal.specs.First.{◌⇐◌, first}
 use Rattle.refusal.specs.After.{granted}
+use Rattle.refusal.specs.Number.{number_of, given}
+use Rattle.refusal.specs.declared.Refusal.{Refusal}
 use Rattle.screen.specs.Fraction.{Equals, equals, is_whole, whole_part, nearest}
 use Rattle.screen.specs.declared.View.{View}
 use Rattle.screen.specs.declared.Seen.{Seen}
-use Rattle.screen.specs.declared.Seen.TheVariants.{On, Off}
-use Rattle.screen.specs.declared.Judged.{Judged}
 use Rattle.screen.specs.declared.Values.{Values}
 
 -- ---- what is refused
@@ -48,13 +49,25 @@ eight_down view level = eightfold (units_down level) view.down view.zoom
 unfoldable pub inside_edges : View → ℕ → ℤ → Bool
 inside_edges view level place = leb (nat_abs (eight_across view place)) (8 * 960) && leb (nat_abs (eight_down view level)) (8 * 540)
 
-unfoldable pub seen_at : View → ℕ → ℤ → Seen
+-- at these distances from the middle
+abbrev pub at : Float → Float → Seen
+at x y = record { across = x; down = y }
+
+-- None: off
+unfoldable pub seen_at : View → ℕ → ℤ → Option Seen
 unfolding inside_edges
-seen_at view level place = cond (inside_edges view level place) (On (nearest (eight_across view place) 8) (nearest (eight_down view level) 8)) Off
+seen_at view level place = then_some (inside_edges view level place) (at (nearest (eight_across view place) 8) (nearest (eight_down view level) 8))
 
 -- a refusal carries off
-abbrev pub answer : View → ℕ → ℤ → Seen
-answer view level place = granted (screen_number view place) (seen_at view level place) Off
+abbrev pub answer : View → ℕ → ℤ → Option Seen
+answer view level place = granted (screen_number view place) (seen_at view level place) None
+
+pub record Judged : Type 0 where
+  pub number : ℕ
+  pub seen : Option Seen
+
+abbrev pub answer_of : Result (Option Seen) Refusal → Judged
+answer_of result = record { number = number_of result; seen = given None result }
 
 -- what a call gives
 pub record OnScreen (view : View) (level : ℕ) (place : ℤ) (r : Judged) : Type 0 where
@@ -62,9 +75,9 @@ pub record OnScreen (view : View) (level : ℕ) (place : ℤ) (r : Judged) : Typ
   pub seen : r.seen ≡ answer view level place
 
 -- the number and the values of each case of the answer: 1 and the two distances, or 0, 0.0 and 0.0
-abbrev pub values_of : ℕ → Seen → Values
-values_of number (On x y) = record { number = number; on = 1; across = x; down = y }
-values_of number Off = record { number = number; on = 0; across = fin false 0 (pos 0); down = fin false 0 (pos 0) }
+abbrev pub values_of : ℕ → Option Seen → Values
+values_of number (Some seen) = record { number = number; on = 1; across = seen.across; down = seen.down }
+values_of number None = record { number = number; on = 0; across = fin false 0 (pos 0); down = fin false 0 (pos 0) }
 
 -- what a call gives, in these
 pub record OnScreenValues (view : View) (level : ℕ) (place : ℤ) (v : Values) : Type 0 where

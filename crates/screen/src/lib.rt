@@ -4,7 +4,10 @@
 ghost use Rattle.std.specs.Prelude.{◌≡◌, ◌&&◌};
 ghost use Rattle.std.specs.Float.{binary64};
 ghost use Rattle.std.specs.Float.Ieee.{neg, le, of_int};
+ghost use Rattle.refusal.specs.Number.{number_of};
 ghost use Rattle.screen.specs.Screen as screen;
+
+use refusal::Refusal;
 
 // The middle of the screen, across and down, and how many times as large a unit is drawn.
 #[derive(Clone, Copy)]
@@ -14,17 +17,11 @@ pub struct View {
     pub zoom: f64,
 }
 
-// On screen, at the distances from the middle across and down; or off.
+// Where on the screen: the distances from the middle.
 #[derive(Clone, Copy)]
-pub enum Seen {
-    On(f64, f64),
-    Off,
-}
-
-#[derive(Clone, Copy)]
-pub struct Judged {
-    pub number: u16,
-    pub seen: Seen,
+pub struct Seen {
+    pub across: f64,
+    pub down: f64,
 }
 
 // The same in plain fields: on is 1 or 0, and a node that is off has the distances 0.
@@ -38,7 +35,7 @@ pub struct Values {
 
 const MOST: f64 = 2097152.0;
 
-const MOST_PLACE: i32 = 2097152;
+const MOST_PLACE: u32 = 2097152;
 
 const MOST_ACROSS: f64 = 960.0;
 
@@ -69,23 +66,24 @@ fn is_centre(x: f64) -> bool
     within(x, MOST) & (x + WHOLE - WHOLE == x)
 }
 
+#[tactic(auto, unfolding(crate::specs::Screen::in_range))]
 fn in_range(place: i32) -> bool
     ensures { result ≡ screen.in_range place }
 {
-    (-MOST_PLACE <= place) & (place <= MOST_PLACE)
+    place.unsigned_abs() <= MOST_PLACE
 }
 
-// 18, 19, or 0 where neither holds.
-fn judge(view: View, place: i32) -> u16
-    ensures { result ≡ screen.screen_number view place }
+#[tactic(auto, unfolding(crate::specs::Screen::screen_number))]
+fn judge(view: View, place: i32) -> Result<(), Refusal>
+    ensures { number_of result ≡ screen.screen_number view place }
 {
     if !is_zoom(view.zoom) {
-        return 18;
+        return Err(Refusal::Zoom);
     }
     if is_centre(view.across) & is_centre(view.down) & in_range(place) {
-        0
+        Ok(())
     } else {
-        19
+        Err(Refusal::OutOfRange)
     }
 }
 
@@ -93,7 +91,7 @@ fn judge(view: View, place: i32) -> u16
 fn units_down(level: u16) -> f64
     ensures { result ≡ of_int binary64 (screen.units_down level) }
 {
-    (LEVEL_UNITS * level as u32) as f64
+    f64::from(LEVEL_UNITS * u32::from(level))
 }
 
 // Unit place less centre, times zoom.
@@ -103,46 +101,36 @@ fn distance(unit: f64, centre: f64, zoom: f64) -> f64
     (unit - centre) * zoom
 }
 
-fn seen_at(view: View, level: u16, place: i32) -> Seen
+// None: off.
+fn seen_at(view: View, level: u16, place: i32) -> Option<Seen>
     requires { screen.screen_number view place ≡ 0 }
     ensures { result ≡ screen.seen_at view level place }
 {
-    let x = distance(place as f64, view.across, view.zoom);
-    let y = distance(units_down(level), view.down, view.zoom);
-    if within(x, MOST_ACROSS) & within(y, MOST_DOWN) {
-        Seen::On(x, y)
-    } else {
-        Seen::Off
-    }
+    let across = distance(f64::from(place), view.across, view.zoom);
+    let down = distance(units_down(level), view.down, view.zoom);
+    let inside = within(across, MOST_ACROSS) & within(down, MOST_DOWN);
+    inside.then_some(Seen { across, down })
 }
 
-pub fn on_screen(view: View, level: u16, place: i32) -> Judged
-    ensures { screen.OnScreen view level place result }
+// Where a node is seen; None: off.
+pub fn on_screen(view: View, level: u16, place: i32) -> Result<Option<Seen>, Refusal>
+    ensures { screen.OnScreen view level place (screen.answer_of result) }
 {
-    let number = judge(view, place);
-    if number != 0 {
-        return Judged {
-            number,
-            seen: Seen::Off,
-        };
-    }
-    Judged {
-        number,
-        seen: seen_at(view, level, place),
-    }
+    judge(view, place)?;
+    Ok(seen_at(view, level, place))
 }
 
-pub fn values_of(number: u16, seen: Seen) -> Values
+pub fn values_of(number: u16, seen: Option<Seen>) -> Values
     ensures { result ≡ screen.values_of number seen }
 {
     match seen {
-        Seen::On(across, down) => Values {
+        Some(Seen { across, down }) => Values {
             number,
             on: 1,
             across,
             down,
         },
-        Seen::Off => Values {
+        None => Values {
             number,
             on: 0,
             across: 0.0,
