@@ -27,9 +27,9 @@ Modest z = nat_abs z ≤ 4194304
 abbrev pub top_level : List ℤ → ℕ → ℕ → Stand
 top_level work f c =
     record {
-      a = f;
-      b = c;
-      e = c + 1;
+      row = f;
+      child = c;
+      end = c + 1;
       right = get work PLACE (c - 1);
       left = get work PLACE (c - 1) +ℤ get work NEED c;
       outer_left = pos 0;
@@ -41,32 +41,32 @@ top_level work f c =
 abbrev pub lower : List ℤ → Stand → Stand
 lower work s =
     record {
-      a = first_of_children work s.a;
-      b = first_of_children work s.b;
-      e = past_children work (s.e - 1);
-      right = s.right +ℤ get work RIGHT (s.b - 1);
-      left = s.left +ℤ get work LEFT s.b;
-      outer_left = s.outer_left +ℤ get work LEFT s.a;
-      outer_right = s.outer_right +ℤ get work RIGHT (s.e - 1);
+      row = first_of_children work s.row;
+      child = first_of_children work s.child;
+      end = past_children work (s.end - 1);
+      right = s.right +ℤ get work RIGHT (s.child - 1);
+      left = s.left +ℤ get work LEFT s.child;
+      outer_left = s.outer_left +ℤ get work LEFT s.row;
+      outer_right = s.outer_right +ℤ get work RIGHT (s.end - 1);
       moved = s.moved;
     }
 
 -- the positions whose children are looked at
 pub record Looked (work : List ℤ) (s : Stand) : Type 0 where
-  pub first-a : Reads work FIRST s.a
-  pub first-b : Reads work FIRST s.b
-  pub first-e : Reads work FIRST (s.e - 1)
-  pub count-e : Reads work COUNT (s.e - 1)
-  pub some : 1 ≤ s.e
+  pub first-a : Reads work FIRST s.row
+  pub first-b : Reads work FIRST s.child
+  pub first-e : Reads work FIRST (s.end - 1)
+  pub count-e : Reads work COUNT (s.end - 1)
+  pub some : 1 ≤ s.end
 
 -- a level that can be worked on
 pub record Level (work : List ℤ) (s : Stand) (f c default : ℕ) : Type 0 where
-  pub row : s.a < s.b
-  pub child : s.b < s.e
+  pub row : s.row < s.child
+  pub child : s.child < s.end
   pub low : f ≤ default
   pub high : default < c
-  pub few : (s.e ≤ 1024) × (c < 1024)
-  pub inside : (16 * s.e ≤ length work) × (16 * (c + 1) ≤ length work)
+  pub few : (s.end ≤ 1024) × (c < 1024)
+  pub inside : (16 * s.end ≤ length work) × (16 * (c + 1) ≤ length work)
   pub right_modest : Modest s.right
   pub left_modest : Modest s.left
   pub outer_left_modest : Modest s.outer_left
@@ -84,17 +84,17 @@ owner_of (negsuc k) f c default = default
 
 -- ---- one level
 
--- by how much the nodes at b - 1 and b are too close
+-- by how much the nodes at child - 1 and child are too close
 abbrev pub too_close : List ℤ → Stand → ℕ
-too_close work s = above0 ((s.right +ℤ get work NEED s.b) -ℤ (s.left +ℤ s.moved))
+too_close work s = above0 ((s.right +ℤ get work NEED s.child) -ℤ (s.left +ℤ s.moved))
 
 -- a conflict is gathered
 abbrev pub noted : List ℤ → Stand → ℕ → ℕ → ℕ → ℕ → List ℤ
-noted work s f c default amount = cond (eqb amount 0) work (shared work (owner_of (get work ANCESTOR (s.b - 1)) f c default) c amount)
+noted work s f c default amount = cond (eqb amount 0) work (shared work (owner_of (get work ANCESTOR (s.child - 1)) f c default) c amount)
 
 -- and the child's last node on the level is marked
 abbrev pub worked : List ℤ → Stand → ℕ → ℕ → ℕ → List ℤ
-worked work s f c default = put (noted work s f c default (too_close work s)) ANCESTOR (s.e - 1) (pos c)
+worked work s f c default = put (noted work s f c default (too_close work s)) ANCESTOR (s.end - 1) (pos c)
 
 -- ---- the end of the walk
 
@@ -104,27 +104,27 @@ widened k extra = k + cond (ltb 0 k) extra 0
 
 abbrev pub is_end : List ℤ → Stand → Bool
 is_end work s =
-    eqb (first_of_children work s.a) (first_of_children work s.b) || eqb (first_of_children work s.b) (past_children work (s.e - 1))
+    eqb (first_of_children work s.row) (first_of_children work s.child) || eqb (first_of_children work s.child) (past_children work (s.end - 1))
 
 -- The row goes deeper: its next node is threaded to the child's last. The child goes deeper: its next node is threaded to the row's last,
 -- and the child is the new default.
 abbrev pub threaded : List ℤ → Stand → List ℤ
 threaded work s =
-    cond (ltb (first_of_children work s.a) (first_of_children work s.b))
-    (put work RIGHT (s.e - 1) ((lower work s).right -ℤ (s.outer_right +ℤ s.moved)))
-    (cond (ltb (first_of_children work s.b) (past_children work (s.e - 1)))
-    (put work LEFT s.a (((lower work s).left +ℤ s.moved) -ℤ s.outer_left))
+    cond (ltb (first_of_children work s.row) (first_of_children work s.child))
+    (put work RIGHT (s.end - 1) ((lower work s).right -ℤ (s.outer_right +ℤ s.moved)))
+    (cond (ltb (first_of_children work s.child) (past_children work (s.end - 1)))
+    (put work LEFT s.row (((lower work s).left +ℤ s.moved) -ℤ s.outer_left))
     work)
 
 abbrev pub new_default : List ℤ → Stand → ℕ → ℕ → ℕ
 new_default work s c default =
-    cond (ltb (first_of_children work s.a) (first_of_children work s.b)) default
-    (cond (ltb (first_of_children work s.b) (past_children work (s.e - 1))) c default)
+    cond (ltb (first_of_children work s.row) (first_of_children work s.child)) default
+    (cond (ltb (first_of_children work s.child) (past_children work (s.end - 1))) c default)
 
 -- the steps that a thread needs are modest
 pub record Threads (work : List ℤ) (s : Stand) : Type 0 where
-  pub row-deeper : first_of_children work s.a < first_of_children work s.b → Modest (lower work s).right
-  pub child-deeper : first_of_children work s.b < past_children work (s.e - 1) → Modest (lower work s).left
+  pub row-deeper : first_of_children work s.row < first_of_children work s.child → Modest (lower work s).right
+  pub child-deeper : first_of_children work s.child < past_children work (s.end - 1) → Modest (lower work s).left
 
 -- the places one level down are modest
 pub record Steps (work : List ℤ) (s : Stand) : Type 0 where

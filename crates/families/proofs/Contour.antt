@@ -43,12 +43,12 @@ pub record Kept (K : Joining) (now : List ℤ) (k : ℕ) : Type 0 where
 -- the code's stand as the walk has it
 abbrev pub stand_of : Stand → ℕ → walk.Stand
 stand_of s k =
-    record { a = s.a; b = s.b; e = s.e; right = s.right; left = s.left; outer_left = s.outer_left; outer_right = s.outer_right; moved = k }
+    record { a = s.row; b = s.child; e = s.end; right = s.right; left = s.left; outer_left = s.outer_left; outer_right = s.outer_right; moved = k }
 
 -- where the walk stands once the child has been moved by z
 abbrev pub pushed : Stand → ℤ → Stand
 pushed s z =
-    record { a = s.a; b = s.b; e = s.e; right = s.right; left = s.left; outer_left = s.outer_left; outer_right = s.outer_right; moved = z }
+    record { row = s.row; child = s.child; end = s.end; right = s.right; left = s.left; outer_left = s.outer_left; outer_right = s.outer_right; moved = z }
 
 -- the walk on one level
 pub record Contour (K : Joining) (now : List ℤ) (s : Stand) : Type 0 where
@@ -102,19 +102,19 @@ module _ {K : Joining} {now : List ℤ} {s : Stand} (C : Contour K now s) where
   first_child-on = on-child (first_of W.y) (first-mem W.y W.runs_child.3)
 
   -- the positions of the level
-  pub a-few : s.a < nodes K.t
+  pub a-few : s.row < nodes K.t
   a-few = omega (arith, W.runs_row.0, W.runs_child.0, W.fits)
 
-  pub b-few : s.b < nodes K.t
+  pub b-few : s.child < nodes K.t
   b-few = omega (arith, W.runs_child.0, W.fits)
 
-  pub e-few : s.e - 1 < nodes K.t
+  pub e-few : s.end - 1 < nodes K.t
   e-few = omega (arith, W.runs_child.0, W.fits)
 
-  pub last-position : s.b - 1 ≡ (last_of W.x).node
+  pub last-position : s.child - 1 ≡ (last_of W.x).node
   last-position = omega (arith, W.runs_row.2)
 
-  pub last_child-position : s.e - 1 ≡ (last_of W.y).node
+  pub last_child-position : s.end - 1 ≡ (last_of W.y).node
   last_child-position = omega (arith, W.runs_child.2)
 
   pub moved-most : start_at K + C.k ≤ 2094592
@@ -142,10 +142,10 @@ module _ {K : Joining} {now : List ℤ} {s : Stand} (C : Contour K now s) where
           omega (arith, kept.small CHANGE p (omega arith) (omega arith) h (omega (arith, g, K.joins.inside)), most, start_at_lem K),
         );
         looked = record {
-          first-a = first_reads K.t K.joins.given.accepted (numbered kept) s.a a-few;
-          first-b = first_reads K.t K.joins.given.accepted (numbered kept) s.b b-few;
-          first-e = first_reads K.t K.joins.given.accepted (numbered kept) (s.e - 1) e-few;
-          count-e = count-reads K.t K.joins.given.accepted (numbered kept) (s.e - 1) e-few;
+          first-a = first_reads K.t K.joins.given.accepted (numbered kept) s.row a-few;
+          first-b = first_reads K.t K.joins.given.accepted (numbered kept) s.child b-few;
+          first-e = first_reads K.t K.joins.given.accepted (numbered kept) (s.end - 1) e-few;
+          count-e = count-reads K.t K.joins.given.accepted (numbered kept) (s.end - 1) e-few;
           some = omega (arith, W.runs_child.0);
         };
       }

@@ -65,22 +65,22 @@ module _ {K : Joining} {now : List ℤ} {s : Stand} (C : Contour K now s) where
   abbrev numbered-after : Numbered (tree_of K.t) K.D.need (nodes K.t) after
   numbered-after = numbered (kept_next C)
 
-  pub first-a : first_of_children after s.a ≡ first K s.a
-  first-a = first-value K.t K.joins.given.accepted numbered-after s.a (a-few C)
+  pub first-a : first_of_children after s.row ≡ first K s.row
+  first-a = first-value K.t K.joins.given.accepted numbered-after s.row (a-few C)
 
-  pub first-b : first_of_children after s.b ≡ first K s.b
-  first-b = first-value K.t K.joins.given.accepted numbered-after s.b (b-few C)
+  pub first-b : first_of_children after s.child ≡ first K s.child
+  first-b = first-value K.t K.joins.given.accepted numbered-after s.child (b-few C)
 
-  pub past-e : past_children after (s.e - 1) ≡ first K s.e
+  pub past-e : past_children after (s.end - 1) ≡ first K s.end
   past-e =
-      let e : suc (s.e - 1) ≡ s.e = omega (arith, W.runs_child.0) in
-      past_value K.t K.joins.given.accepted numbered-after (s.e - 1) (e-few C) ∙ ap (first K) e
+      let e : suc (s.end - 1) ≡ s.end = omega (arith, W.runs_child.0) in
+      past_value K.t K.joins.given.accepted numbered-after (s.end - 1) (e-few C) ∙ ap (first K) e
 
-  pub rows-below : ((W.xs ≡ []) × (first K s.a ≡ first K s.b)) ⊎ ((x : List Dot) × (xs : List (List Dot)) × (W.xs ≡ x ∷ xs) × (first K s.a < first K s.b))
-  rows-below = runs_cases (first K) (first K s.a) (first K s.b) W.xs W.runs_row.4
+  pub rows-below : ((W.xs ≡ []) × (first K s.row ≡ first K s.child)) ⊎ ((x : List Dot) × (xs : List (List Dot)) × (W.xs ≡ x ∷ xs) × (first K s.row < first K s.child))
+  rows-below = runs_cases (first K) (first K s.row) (first K s.child) W.xs W.runs_row.4
 
-  pub children-below : ((W.ys ≡ []) × (first K s.b ≡ first K s.e)) ⊎ ((y : List Dot) × (ys : List (List Dot)) × (W.ys ≡ y ∷ ys) × (first K s.b < first K s.e))
-  children-below = runs_cases (first K) (first K s.b) (first K s.e) W.ys W.runs_child.4
+  pub children-below : ((W.ys ≡ []) × (first K s.child ≡ first K s.end)) ⊎ ((y : List Dot) × (ys : List (List Dot)) × (W.ys ≡ y ∷ ys) × (first K s.child < first K s.end))
+  children-below = runs_cases (first K) (first K s.child) (first K s.end) W.ys W.runs_child.4
 
   -- ---- the steps that a thread needs
 
@@ -88,27 +88,27 @@ module _ {K : Joining} {now : List ℤ} {s : Stand} (C : Contour K now s) where
   next_row x xs e =
       let r : RightSteps (get K.before RIGHT) (W.x ∷ x ∷ xs) = subst (λ (l : List (List Dot)). RightSteps (get K.before RIGHT) (W.x ∷ l)) e W.right-row in
       step_to W.right-at
-      (same-field RIGHT (s.b - 1) (omega arith) ∙ ap (get K.before RIGHT) (last-position C) ∙ r.0)
+      (same-field RIGHT (s.child - 1) (omega arith) ∙ ap (get K.before RIGHT) (last-position C) ∙ r.0)
 
   pub next-child : (y : List Dot) (ys : List (List Dot)) → W.ys ≡ y ∷ ys → (lower after s).left ≡ (first_of y).place
   next-child y ys e =
       let r : LeftSteps (get K.before LEFT) (W.y ∷ y ∷ ys) = subst (λ (l : List (List Dot)). LeftSteps (get K.before LEFT) (W.y ∷ l)) e W.left-child in
       step_to W.left_at
-      (same-field LEFT s.b (omega arith) ∙ ap (get K.before LEFT) (sym W.runs_child.1) ∙ r.0)
+      (same-field LEFT s.child (omega arith) ∙ ap (get K.before LEFT) (sym W.runs_child.1) ∙ r.0)
 
   pub threads : (z : ℤ) → Threads after (pushed s z)
   threads z =
       record {
         row-deeper = λ h. ⊎_elim (λ e. absurd (omega (arith, h, e.1, first-a, first-b)))
             (λ X.
-            let r : Runs (first K) (first K s.a) (first K s.b) (X.0 ∷ X.1) = subst (Runs (first K) (first K s.a) (first K s.b)) X.2 W.runs_row.4 in
+            let r : Runs (first K) (first K s.row) (first K s.child) (X.0 ∷ X.1) = subst (Runs (first K) (first K s.row) (first K s.child)) X.2 W.runs_row.4 in
             row_modest K (lower after s).right (last_of X.0) _ (next_row X.0 X.1 X.2)
             (below_on W.above-row W.x X.0 X.1 (J K).row (W.row ∙ ap (λ (l : List (List Dot)). W.above-row ++ (W.x ∷ l)) X.2) (last_of X.0)
             (last_mem X.0 r.3)))
             rows-below;
         child-deeper = λ h. ⊎_elim (λ e. absurd (omega (arith, h, e.1, past-e, first-b)))
             (λ Y.
-            let r : Runs (first K) (first K s.b) (first K s.e) (Y.0 ∷ Y.1) = subst (Runs (first K) (first K s.b) (first K s.e)) Y.2 W.runs_child.4 in
+            let r : Runs (first K) (first K s.child) (first K s.end) (Y.0 ∷ Y.1) = subst (Runs (first K) (first K s.child) (first K s.end)) Y.2 W.runs_child.4 in
             child_modest K (lower after s).left (first_of Y.0) _ (next-child Y.0 Y.1 Y.2)
             (below_on W.above-child W.y Y.0 Y.1 (J K).child (W.child ∙ ap (λ (l : List (List Dot)). W.above-child ++ (W.y ∷ l)) Y.2) (first_of Y.0)
             (first-mem Y.0 r.3)))
@@ -126,8 +126,8 @@ module _ {K : Joining} {now : List ℤ} {s : Stand} (C : Contour K now s) where
         record {
           k = moved C;
           moved = ez;
-          walking = ⊎_elim (λ e. absurd (true≢false (sym (or-true (inl (eq-eqb (first_of_children after s.a) (first_of_children after s.b) (first-a ∙ e.1 ∙ sym first-b)))) ∙ go_on)))
-              (λ X. ⊎_elim (λ e. absurd (true≢false (sym (or-true {a = eqb (first_of_children after s.a) (first_of_children after s.b)} (inr (eq-eqb (first_of_children after s.b) (past_children after (s.e - 1)) (first-b ∙ e.1 ∙ sym past-e)))) ∙ go_on)))
+          walking = ⊎_elim (λ e. absurd (true≢false (sym (or-true (inl (eq-eqb (first_of_children after s.row) (first_of_children after s.child) (first-a ∙ e.1 ∙ sym first-b)))) ∙ go_on)))
+              (λ X. ⊎_elim (λ e. absurd (true≢false (sym (or-true {a = eqb (first_of_children after s.row) (first_of_children after s.child)} (inr (eq-eqb (first_of_children after s.child) (past_children after (s.end - 1)) (first-b ∙ e.1 ∙ sym past-e)))) ∙ go_on)))
               (λ Y. subst (Walking (J K) (F K) (new C)) same-stand
               (walk_down_lem W (turned C) (met-before-c C) X.2 Y.2))
               children-below)
@@ -138,10 +138,10 @@ module _ {K : Joining} {now : List ℤ} {s : Stand} (C : Contour K now s) where
         same-stand : down W ≡ stand_of (lower after (pushed s z)) (moved C)
         same-stand =
             stands (sym first-a) (sym first-b) (sym past-e)
-            (side RIGHT (s.b - 1) (last_of W.x).node (omega arith) (last-position C) s.right)
-            (side LEFT s.b (first_of W.y).node (omega arith) (sym W.runs_child.1) s.left)
-            (side LEFT s.a (first_of W.x).node (omega arith) (sym W.runs_row.1) s.outer_left)
-            (side RIGHT (s.e - 1) (last_of W.y).node (omega arith) (last_child-position C) s.outer_right)
+            (side RIGHT (s.child - 1) (last_of W.x).node (omega arith) (last-position C) s.right)
+            (side LEFT s.child (first_of W.y).node (omega arith) (sym W.runs_child.1) s.left)
+            (side LEFT s.row (first_of W.x).node (omega arith) (sym W.runs_row.1) s.outer_left)
+            (side RIGHT (s.end - 1) (last_of W.y).node (omega arith) (last_child-position C) s.outer_right)
             (moved_same C)
 
     pub steps-below : Steps after (pushed s z)
@@ -155,5 +155,5 @@ module _ {K : Joining} {now : List ℤ} {s : Stand} (C : Contour K now s) where
         }
 
     -- the child's first node lies further right
-    pub fewer-left : nodes K.t - (lower after (pushed s z)).b < nodes K.t - s.b
-    fewer-left = omega (arith, first-b, (O K).later s.b (b-few C), b-few C)
+    pub fewer-left : nodes K.t - (lower after (pushed s z)).child < nodes K.t - s.child
+    fewer-left = omega (arith, first-b, (O K).later s.child (b-few C), b-few C)

@@ -41,13 +41,13 @@ module _ {K : Joining} {now : List ℤ} {s : Stand} (C : Contour K now s) (extra
 
   abbrev thread : Bool → Bool → List ℤ
   thread p q =
-      cond p (put after RIGHT (s.e - 1) ((lower after s).right -ℤ (s.outer_right +ℤ z)))
-      (cond q (put after LEFT s.a (((lower after s).left +ℤ z) -ℤ s.outer_left)) after)
+      cond p (put after RIGHT (s.end - 1) ((lower after s).right -ℤ (s.outer_right +ℤ z)))
+      (cond q (put after LEFT s.row (((lower after s).left +ℤ z) -ℤ s.outer_left)) after)
 
   abbrev default-by : Bool → Bool → ℕ
   default-by p q = cond p K.default (cond q K.c K.default)
 
-  by : (p q : Bool) → ltb (first_of_children after s.a) (first_of_children after s.b) ≡ p → ltb (first_of_children after s.b) (past_children after (s.e - 1)) ≡ q
+  by : (p q : Bool) → ltb (first_of_children after s.row) (first_of_children after s.child) ≡ p → ltb (first_of_children after s.child) (past_children after (s.end - 1)) ≡ q
       → Ends K after (thread p q) (moved C + extra) extra (default-by p q) → Ends K after (threaded after (pushed s z)) (moved C + extra) extra (new_default after (pushed s z) K.c K.default)
   by p q ep eq E = subst₂ (λ (x y : Bool). Ends K after (thread x y) (moved C + extra) extra (default-by x y)) (sym ep) (sym eq) E
 
@@ -57,27 +57,27 @@ module _ {K : Joining} {now : List ℤ} {s : Stand} (C : Contour K now s) (extra
       (λ X. ⊎_elim
       (λ Y. by false false (row_ends X.1) (child-ends Y.1) (ends-both C extra X.0 Y.0))
       (λ Y.
-      by false true (row_ends X.1) (lt-ltb (first_of_children after s.b) (past_children after (s.e - 1)) (omega (arith, first-b C, past-e C, Y.3)))
+      by false true (row_ends X.1) (lt-ltb (first_of_children after s.child) (past_children after (s.end - 1)) (omega (arith, first-b C, past-e C, Y.3)))
       (ends-row C extra z ez X.0 Y.0 Y.1 Y.2))
       (children-below C))
       (λ X. ⊎_elim
       (λ Y.
-      by true false (lt-ltb (first_of_children after s.a) (first_of_children after s.b) (omega (arith, first-a C, first-b C, X.3))) (child-ends Y.1)
+      by true false (lt-ltb (first_of_children after s.row) (first_of_children after s.child) (omega (arith, first-a C, first-b C, X.3))) (child-ends Y.1)
       (ends-child C extra z ez Y.0))
       (λ Y. absurd (true≢false (sym stop ∙ both_differ X.3 Y.3)))
       (children-below C))
       (rows-below C)
     where
-      row_ends : first K s.a ≡ first K s.b → ltb (first_of_children after s.a) (first_of_children after s.b) ≡ false
-      row_ends e = le-ltb (first_of_children after s.a) (first_of_children after s.b) (omega (arith, first-a C, first-b C))
+      row_ends : first K s.row ≡ first K s.child → ltb (first_of_children after s.row) (first_of_children after s.child) ≡ false
+      row_ends e = le-ltb (first_of_children after s.row) (first_of_children after s.child) (omega (arith, first-a C, first-b C))
 
-      child-ends : first K s.b ≡ first K s.e → ltb (first_of_children after s.b) (past_children after (s.e - 1)) ≡ false
-      child-ends e = le-ltb (first_of_children after s.b) (past_children after (s.e - 1)) (omega (arith, first-b C, past-e C))
+      child-ends : first K s.child ≡ first K s.end → ltb (first_of_children after s.child) (past_children after (s.end - 1)) ≡ false
+      child-ends e = le-ltb (first_of_children after s.child) (past_children after (s.end - 1)) (omega (arith, first-b C, past-e C))
 
-      both_differ : first K s.a < first K s.b → first K s.b < first K s.e → is_end after (pushed s z) ≡ false
+      both_differ : first K s.row < first K s.child → first K s.child < first K s.end → is_end after (pushed s z) ≡ false
       both_differ h g =
-          ap₂ (λ (x y : Bool). x || y) (ne_eqb (first_of_children after s.a) (first_of_children after s.b) (λ q. omega (arith, first-a C, first-b C, h, q)))
-          (ne_eqb (first_of_children after s.b) (past_children after (s.e - 1)) (λ q. omega (arith, first-b C, past-e C, g, q)))
+          ap₂ (λ (x y : Bool). x || y) (ne_eqb (first_of_children after s.row) (first_of_children after s.child) (λ q. omega (arith, first-a C, first-b C, h, q)))
+          (ne_eqb (first_of_children after s.child) (past_children after (s.end - 1)) (λ q. omega (arith, first-b C, past-e C, g, q)))
 
 -- ---- the row with one child more
 

@@ -86,7 +86,7 @@ module _ {K : Joining} {now : List ℤ} {s : Stand} (C : Contour K now s) where
       ⊎_elim (λ e. e) (λ e. absurd (apart K (last_of W.x).node (row_on K (last_of W.x) _ (last-row_on C)) e.1))
       (C.kept.ancestor (last_of W.x).node)
 
-  owner_found : owner_of (get now ANCESTOR (s.b - 1)) f c default ≡ i
+  owner_found : owner_of (get now ANCESTOR (s.child - 1)) f c default ≡ i
   owner_found =
       ap (λ (z : ℤ). owner_of z f c default) (ap (get now ANCESTOR) (last-position C) ∙ same-ancestor)
       ∙ ⊎_elim (λ e. owner-child (get before ANCESTOR (last_of W.x).node) f (last_of W.x).child c default e met-before-c)
@@ -100,7 +100,7 @@ module _ {K : Joining} {now : List ℤ} {s : Stand} (C : Contour K now s) where
   mid-cases =
       ⊎_elim (λ e. inl (e.0, ap (λ (m : ℕ). noted now s f c default m) e.0))
       (λ e.
-      inr (ap (λ (b : Bool). cond b now (shared now (owner_of (get now ANCESTOR (s.b - 1)) f c default) c close)) (ne_eqb close 0 e.0)
+      inr (ap (λ (b : Bool). cond b now (shared now (owner_of (get now ANCESTOR (s.child - 1)) f c default) c close)) (ne_eqb close 0 e.0)
       ∙ ap (λ (j : ℕ). shared now j c close) owner_found))
       (is-cases close 0)
 
@@ -131,24 +131,24 @@ module _ {K : Joining} {now : List ℤ} {s : Stand} (C : Contour K now s) where
   -- ---- the mark
 
   next_field : (g p : ℕ) → g < 16 → (g ≡ ANCESTOR → ⊥) → get next g p ≡ get mid g p
-  next_field g p h a = put-field mid ANCESTOR (s.e - 1) (pos c) (omega arith) g p h a
+  next_field g p h a = put-field mid ANCESTOR (s.end - 1) (pos c) (omega arith) g p h a
 
   next-mark : get next ANCESTOR (last_of W.y).node ≡ pos c
   next-mark =
-      ap (get next ANCESTOR) (sym (last_child-position C)) ∙ put_same mid ANCESTOR (s.e - 1) (pos c) (omega (arith, mid-length, inside, e-few C))
+      ap (get next ANCESTOR) (sym (last_child-position C)) ∙ put_same mid ANCESTOR (s.end - 1) (pos c) (omega (arith, mid-length, inside, e-few C))
 
   next-others : (w : ℕ) → (w ≡ (last_of W.y).node → ⊥) → get next ANCESTOR w ≡ get now ANCESTOR w
   next-others w d =
-      put-position mid ANCESTOR (s.e - 1) (pos c) (omega arith) ANCESTOR w (omega arith) (λ e. d (e ∙ last_child-position C))
+      put-position mid ANCESTOR (s.end - 1) (pos c) (omega arith) ANCESTOR w (omega arith) (λ e. d (e ∙ last_child-position C))
       ∙ mid-field ANCESTOR w (omega arith)
 
   -- what the node at b needs from the one at b - 1
-  pub need-now : get now NEED s.b ≡ pos (D.need (s.b - 1) s.b)
-  need-now = needed-at (numbered C.kept) s.b (omega (arith, W.runs_row.0)) (b-few C)
+  pub need-now : get now NEED s.child ≡ pos (D.need (s.child - 1) s.child)
+  need-now = needed-at (numbered C.kept) s.child (omega (arith, W.runs_row.0)) (b-few C)
 
   same-close : close ≡ amount W
   same-close =
-      let d = D.need (s.b - 1) s.b in
+      let d = D.need (s.child - 1) s.child in
       ap₂ (λ (y z : ℤ). above0 ((s.right +ℤ y) -ℤ (s.left +ℤ z))) need-now C.moved
       ∙ ap above0 (parts_eq ((s.right +ℤ pos d) -ℤ (s.left +ℤ pos C.k)) (pos d -ℤ ((s.left +ℤ pos C.k) -ℤ s.right))
       (omega (
@@ -199,8 +199,8 @@ module _ {K : Joining} {now : List ℤ} {s : Stand} (C : Contour K now s) where
   pub kept_next : Kept K next moved
   kept_next =
       record {
-        size = put-length mid ANCESTOR (s.e - 1) (pos c) ∙ mid-length ∙ C.kept.size;
-        rest = put_rest mid ANCESTOR (s.e - 1) (pos c) (omega arith) (nodes t) (e-few C) ∙ mid-rest ∙ C.kept.rest;
+        size = put-length mid ANCESTOR (s.end - 1) (pos c) ∙ mid-length ∙ C.kept.size;
+        rest = put_rest mid ANCESTOR (s.end - 1) (pos c) (omega arith) (nodes t) (e-few C) ∙ mid-rest ∙ C.kept.rest;
         field = λ g p h. next_field g p (omega arith) (λ e. omega arith) ∙ mid-field g p (omega arith) ∙ C.kept.field g p h;
         still = λ g p l r q.
             next_field g p (omega arith) (λ e. omega arith)

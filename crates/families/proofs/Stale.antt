@@ -58,17 +58,17 @@ module _ {K : Joining} {now : List ℤ} {s : Stand} (C : Contour K now s) where
   abbrev W : Walking (J K) (F K) (fields_of (columns_of now)) (stand_of s C.k)
   W = C.walking
 
-  child-before : c < s.e
+  child-before : c < s.end
   child-before =
       let T = split-child (width (row K)) c (start_at K) (child K) in
       go W.above-child W.passed (ap top_last (sym T.1) ∙ ap top_last W.child)
     where
-      go : (us : List (List Dot)) → All (λ l. (last_of l).node < s.b) us → c ≡ top_last (us ++ (W.y ∷ W.ys)) → c < s.e
+      go : (us : List (List Dot)) → All (λ l. (last_of l).node < s.child) us → c ≡ top_last (us ++ (W.y ∷ W.ys)) → c < s.end
       go [] a q = omega (arith, q, W.runs_child.2)
       go (u ∷ us) a q = omega (arith, q, a.0, W.runs_child.0)
 
   -- on the levels below the nodes are of the child's family
-  in_family : (k : ℕ) → first K s.b ≤ k → 1 ≤ occurs t c (suc c) k → 1 ≤ occurs t (first K c) (first K (suc c)) k
+  in_family : (k : ℕ) → first K s.child ≤ k → 1 ≤ occurs t c (suc c) k → 1 ≤ occurs t (first K c) (first K (suc c)) k
   in_family k h o =
       let same = times-root (first K) (nodes t) (O K) c k (small_n K) in
       ⊎_elim (λ q. absurd (omega (arith, q.0, h, reach W, child-before))) (λ q. omega (arith, o, same, q.1)) (is-cases k c)
@@ -79,20 +79,20 @@ module _ {K : Joining} {now : List ℤ} {s : Stand} (C : Contour K now s) where
       (subst (All (λ l. 1 ≤ occurs t c (suc c) (last_of l).node)) W.child
       (all_lasts (λ e. 1 ≤ occurs t c (suc c) e.node) (J K).child (spaced-child K).some (child-on K)))
 
-  not-passed : (k : ℕ) → first K s.b ≤ k → All (λ l. (last_of l).node ≡ k → ⊥) (W.above-child ++ (W.y ∷ []))
+  not-passed : (k : ℕ) → first K s.child ≤ k → All (λ l. (last_of l).node ≡ k → ⊥) (W.above-child ++ (W.y ∷ []))
   not-passed k h =
       all_append _ W.above-child (W.y ∷ []) (each W.above-child W.passed) ((λ q. omega (arith, q, h, reach W, W.runs_child.2)), tt)
     where
-      each : (us : List (List Dot)) → All (λ l. (last_of l).node < s.b) us → All (λ l. (last_of l).node ≡ k → ⊥) us
+      each : (us : List (List Dot)) → All (λ l. (last_of l).node < s.child) us → All (λ l. (last_of l).node ≡ k → ⊥) us
       each [] a = tt
       each (u ∷ us) a = ((λ q. omega (arith, q, a.0, h, reach W, W.runs_child.0)), each us a.1)
 
   pub stale-below : All (λ l. Outside f end (get (next C) ANCESTOR (last_of l).node)) W.ys
   stale-below =
-      go W.ys (runs_from (first K) (nodes t) (O K) (first K s.b) (first K s.e) W.ys (within (first K) (nodes t) (O K) s.e W.fits) W.runs_child.4)
+      go W.ys (runs_from (first K) (nodes t) (O K) (first K s.child) (first K s.end) W.ys (within (first K) (nodes t) (O K) s.end W.fits) W.runs_child.4)
       below-there.1
     where
-      go : (ys : List (List Dot)) → All (λ l. first K s.b ≤ (last_of l).node) ys → All (λ l. 1 ≤ occurs t c (suc c) (last_of l).node) ys
+      go : (ys : List (List Dot)) → All (λ l. first K s.child ≤ (last_of l).node) ys → All (λ l. 1 ≤ occurs t c (suc c) (last_of l).node) ys
           → All (λ l. Outside f end (get (next C) ANCESTOR (last_of l).node)) ys
       go [] a b = tt
       go (y ∷ ys) a b =

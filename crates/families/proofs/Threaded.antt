@@ -122,20 +122,20 @@ module _ {K : Joining} {now : List ℤ} {s : Stand} (C : Contour K now s) (extra
     right-step = (lower after s).right -ℤ (s.outer_right +ℤ z)
 
     abbrev right-put : List ℤ
-    right-put = put after RIGHT (s.e - 1) right-step
+    right-put = put after RIGHT (s.end - 1) right-step
 
-    child-there : 1 ≤ occurs t c (suc c) (s.e - 1)
+    child-there : 1 ≤ occurs t c (suc c) (s.end - 1)
     child-there = subst (λ (p : ℕ). 1 ≤ occurs t c (suc c) p) (sym (last_child-position C)) (child-on K (last_of W.y) _ (last_child-on C))
 
-    right-other : (p : ℕ) → (p ≡ s.e - 1 → ⊥) → get right-put RIGHT p ≡ get after RIGHT p
-    right-other p d = put-position after RIGHT (s.e - 1) right-step (omega arith) RIGHT p (omega arith) d
+    right-other : (p : ℕ) → (p ≡ s.end - 1 → ⊥) → get right-put RIGHT p ≡ get after RIGHT p
+    right-other p d = put-position after RIGHT (s.end - 1) right-step (omega arith) RIGHT p (omega arith) d
 
     pub ends-child : W.ys ≡ [] → Ends K after right-put far extra default
     ends-child ey =
-        ends-put RIGHT (s.e - 1) right-step (omega arith) (omega arith) (e-few C) (omega (arith, occurs-next K (s.e - 1), child-there)) default
+        ends-put RIGHT (s.end - 1) right-step (omega arith) (omega arith) (e-few C) (omega (arith, occurs-next K (s.end - 1), child-there)) default
         K.joins.rowed.default-low (omega (arith, K.joins.rowed.default-high))
         (ended-by-child right-put ey (λ x xs e.
-        ap (get right-put RIGHT) (sym (last_child-position C)) ∙ put_same after RIGHT (s.e - 1) right-step (omega (arith, inside, e-few C))
+        ap (get right-put RIGHT) (sym (last_child-position C)) ∙ put_same after RIGHT (s.end - 1) right-step (omega (arith, inside, e-few C))
         ∙ ap₂ (λ (u v : ℤ). u -ℤ v) (next_row C x xs e) (ap₂ ◌+ℤ◌ W.outer_right_holds ez)))
         (record {
           left-row = subst (λ (g : ℕ → ℤ). LeftSteps g (J K).row) lefts stepped.left-row;
@@ -154,7 +154,7 @@ module _ {K : Joining} {now : List ℤ} {s : Stand} (C : Contour K now s) (extra
         })
       where
         lefts : get after LEFT ≡ get right-put LEFT
-        lefts = other-side RIGHT LEFT (s.e - 1) right-step (omega arith) (omega arith) (omega arith) (omega arith) (λ e. omega arith)
+        lefts = other-side RIGHT LEFT (s.end - 1) right-step (omega arith) (omega arith) (omega arith) (omega arith) (λ e. omega arith)
 
         whole : (J K).child ≡ W.above-child ++ (W.y ∷ [])
         whole = W.child ∙ ap (λ (l : List (List Dot)). W.above-child ++ (W.y ∷ l)) ey
@@ -165,20 +165,20 @@ module _ {K : Joining} {now : List ℤ} {s : Stand} (C : Contour K now s) (extra
     left_step = ((lower after s).left +ℤ z) -ℤ s.outer_left
 
     abbrev left-put : List ℤ
-    left-put = put after LEFT s.a left_step
+    left-put = put after LEFT s.row left_step
 
-    row-there : 1 ≤ occurs t f c s.a
+    row-there : 1 ≤ occurs t f c s.row
     row-there = subst (λ (p : ℕ). 1 ≤ occurs t f c p) W.runs_row.1 (row_on K (first_of W.x) _ (first-row_on C))
 
-    left_other : (p : ℕ) → (p ≡ s.a → ⊥) → get left-put LEFT p ≡ get after LEFT p
-    left_other p d = put-position after LEFT s.a left_step (omega arith) LEFT p (omega arith) d
+    left_other : (p : ℕ) → (p ≡ s.row → ⊥) → get left-put LEFT p ≡ get after LEFT p
+    left_other p d = put-position after LEFT s.row left_step (omega arith) LEFT p (omega arith) d
 
     pub ends-row : W.xs ≡ [] → (y : List Dot) (ys : List (List Dot)) → W.ys ≡ y ∷ ys → Ends K after left-put far extra c
     ends-row ex y ys ey =
-        ends-put LEFT s.a left_step (omega arith) (omega arith) (a-few C) (omega (arith, occurs-next K s.a, row-there)) c (omega (arith, (S K).some)) (omega arith)
+        ends-put LEFT s.row left_step (omega arith) (omega arith) (a-few C) (omega (arith, occurs-next K s.row, row-there)) c (omega (arith, (S K).some)) (omega arith)
         (subst (λ (m : ℕ). Ended (J K) (F K) (new C) (get left-put LEFT) (get left-put RIGHT) (m + extra) extra c) (moved_same C)
         (row_ends W (turned C) (met-before-c C) extra (get left-put LEFT) (get left-put RIGHT) ex ey
-        (ap (get left-put LEFT) W.runs_row.1 ∙ put_same after LEFT s.a left_step (omega (arith, inside, a-few C))
+        (ap (get left-put LEFT) W.runs_row.1 ∙ put_same after LEFT s.row left_step (omega (arith, inside, a-few C))
         ∙ ap₂ (λ (u v : ℤ). u -ℤ v) (ap₂ ◌+ℤ◌ (next-child C y ys ey) (ez ∙ ap (λ (m : ℕ). pos (m + extra)) (sym (moved_same C)))) W.outer_left_holds)
         (stale-below C)))
         (record {
@@ -198,7 +198,7 @@ module _ {K : Joining} {now : List ℤ} {s : Stand} (C : Contour K now s) (extra
         })
       where
         rights : get after RIGHT ≡ get left-put RIGHT
-        rights = other-side LEFT RIGHT s.a left_step (omega arith) (omega arith) (omega arith) (omega arith) (λ e. omega arith)
+        rights = other-side LEFT RIGHT s.row left_step (omega arith) (omega arith) (omega arith) (omega arith) (λ e. omega arith)
 
         whole : (J K).row ≡ W.above-row ++ (W.x ∷ [])
         whole = W.row ∙ ap (λ (l : List (List Dot)). W.above-row ++ (W.x ∷ l)) ex

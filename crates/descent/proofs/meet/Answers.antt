@@ -1,167 +1,118 @@
 -- `descent::meet` meets its contract. Assumes nothing.
 use mathlib.Core.Path.{◌≡◌, refl, sym, ap, ap₂, ◌∙◌}
+use mathlib.Core.Bool.{true, false}
 use mathlib.Core.List.{List}
-use Prim.Native.Nat.{ℕ, ◌-◌, ◌≤◌, ◌<◌}
+use Prim.Native.Nat.{ℕ, ◌-◌, ◌<◌}
 use native.Mathlib.Omega.{arith}
 use borrow.Author.Tests.{ne_eqb}
 use lib.IntN.{ℤ, pos, nat_abs, ◌+ℤ◌, ◌-ℤ◌}
-use lib.Signed.{le_z}
-use mir.Syntax.{w32}
-use mir.Val.{to_z}
+use lib.Signed.{lt_z, mag}
+use Rattle.std.specs.Int.{int_max}
 use Rattle.rule.proofs.Signed.{nat_abs_add, nat_abs_sub}
 use Rattle.level_order.specs.Fields.{get, put, NEED, ANCESTOR}
-use Rattle.level_order.proofs.Signed32.{stored, Held, told, held, plus, minus, signed, unsigned, unsigned-fits}
+use Rattle.level_order.proofs.Signed32.{stored, Held, told, held, plus, minus, signed}
 use Rattle.descent.specs.declared.Stand.{Stand}
+use Rattle.descent.specs.declared.Elders.{Elders}
 use Rattle.shifts.specs.Shifts.{shared}
-use Rattle.descent.specs.Descent.{Level, too_close, owner_of}
-use Rattle.descent.proofs.Above.{not-above, is-above}
+use Rattle.descent.specs.Descent.{Modest, Level, too_close, owner_of, noted}
+use Rattle.descent.proofs.Above.{not-above, is-above, above-max}
 use Rattle.descent.proofs.OwnerOf.{owner_range}
 use Rattle.descent.proofs.meet.Goals as goal
-use Rattle.descent.proofs.meet.Lts as lts
-use Rattle.descent.proofs.meet.Reads as reads
-use Rattle.descent.proofs.meet.Tie as tie
+use Rattle.descent.proofs.meet.Goals.{then-close-gt0, else-close-gt0}
 
-abbrev After-get : Type 0
-After-get = lts.After-get tie.the-claims reads.Pre reads.Post tie.handed_clauses
-
-abbrev Start : Type 0
-Start = lts.Start tie.the-claims reads.Pre reads.Post tie.handed_clauses
-
-abbrev After-struct_told2 : Type 0
-After-struct_told2 = lts.After-struct_told2 tie.the-claims reads.Pre reads.Post tie.handed_clauses
-
-abbrev Then1 : Type 0
-Then1 = lts.Then1 tie.the-claims reads.Pre reads.Post tie.handed_clauses
-
-abbrev Else1 : Type 0
-Else1 = lts.Else1 tie.the-claims reads.Pre reads.Post tie.handed_clauses
-
--- once what the level needs is read
-module _ (g : After-get) where
-  abbrev s : Start
-  s = g.before
-
-  abbrev work : List ℤ
-  work = s.args.work.now
-
-  abbrev stand : Stand
-  stand = s.args.s
-
-  abbrev child : ℕ
-  child = s.args.c
-
+-- z is read as what the child's node on the level needs
+module _ (work : List ℤ) (s : Stand) (h : Elders) (level : Level work s h.first h.child h.default) (modest : Modest (get work NEED s.child))
+    (z : ℤ) (fits : mag z < 2147483648) (is : z ≡ get work NEED s.child) where
   abbrev need : ℤ
-  need = get work NEED stand.b
-
-  abbrev level : Level work stand s.args.f child s.args.default
-  level = s.requires.level
+  need = get work NEED s.child
 
   -- where the child's node has to be, where it is, and by how much it is too close
-  least : Held (stored stand.right +ℤ stored g.get.result) (stand.right +ℤ need)
+  least : Held (stored s.right +ℤ stored z) (s.right +ℤ need)
   least =
-      plus (held {z = stand.right} refl (omega (arith, level.right_modest))).read (told g.get.type_inv g.get.ensures)
-      (omega (arith, nat_abs_add stand.right need, level.right_modest, s.requires.modest.0))
+      plus (held {z = s.right} refl (omega (arith, level.right_modest))).read (told fits is)
+      (omega (arith, nat_abs_add s.right need, level.right_modest, modest))
 
-  place : Held (stored stand.left +ℤ stored stand.moved) (stand.left +ℤ stand.moved)
+  place : Held (stored s.left +ℤ stored s.moved) (s.left +ℤ s.moved)
   place =
-      plus (held {z = stand.left} refl (omega (arith, level.left_modest))).read (held {z = stand.moved} refl (omega (arith, level.moved_modest))).read
-      (omega (arith, nat_abs_add stand.left stand.moved, level.left_modest, level.moved_modest))
+      plus (held {z = s.left} refl (omega (arith, level.left_modest))).read (held {z = s.moved} refl (omega (arith, level.moved_modest))).read
+      (omega (arith, nat_abs_add s.left s.moved, level.left_modest, level.moved_modest))
 
   abbrev difference : ℤ
-  difference = stored (stored stand.right +ℤ stored g.get.result) -ℤ stored (stored stand.left +ℤ stored stand.moved)
+  difference = stored (stored s.right +ℤ stored z) -ℤ stored (stored s.left +ℤ stored s.moved)
 
   abbrev gap : ℤ
-  gap = (stand.right +ℤ need) -ℤ (stand.left +ℤ stand.moved)
+  gap = (s.right +ℤ need) -ℤ (s.left +ℤ s.moved)
 
   close : Held difference gap
   close =
       minus least.read place.read
       (omega (
         arith,
-        nat_abs_sub (stand.right +ℤ need) (stand.left +ℤ stand.moved),
-        nat_abs_add stand.right need,
-        nat_abs_add stand.left stand.moved,
+        nat_abs_sub (s.right +ℤ need) (s.left +ℤ s.moved),
+        nat_abs_add s.right need,
+        nat_abs_add s.left s.moved,
         level.right_modest,
         level.left_modest,
         level.moved_modest,
-        s.requires.modest.0,
+        modest,
       ))
 
-  child-read : to_z w32 child ≡ pos child
-  child-read = signed child (omega (arith, level.few.1))
+  greatest : int_max (stored difference) (pos 0) ≡ pos (too_close work s)
+  greatest = ap (λ (x : ℤ). int_max x (pos 0)) close.read ∙ above-max gap
 
-  abbrev amount : ℕ
-  amount = too_close work stand
+  -- a conflict
+  module _ (some : lt_z (pos 0) (stored difference) ≡ true) where
+    above : (gap ≡ pos (too_close work s)) × (0 < too_close work s)
+    above = is-above gap (ap (lt_z (pos 0)) (sym close.read) ∙ some)
 
-pub overflow_add-close : goal.overflow_add-close
-overflow_add-close c = (least c.before.before.before).fits
+    amount : nat_abs (stored difference) ≡ too_close work s
+    amount = ap nat_abs (close.read ∙ above.0)
 
--- once the places are read
-abbrev read : After-struct_told2 → After-get
-read c = c.before.before.before.before
+    noted-some : (i : ℕ) → i ≡ owner_of (get work ANCESTOR (s.child - 1)) h.first h.child h.default
+        → noted work s h.first h.child h.default (too_close work s) ≡ shared work i h.child (nat_abs (stored difference))
+    noted-some i e = rw (ne_eqb (too_close work s) 0 (λ z. omega (arith, z, above.1)), e, amount)
 
-pub overflow_add-close-2 : goal.overflow_add-close-2
-overflow_add-close-2 c = (place (read c)).fits
+  none : lt_z (pos 0) (stored difference) ≡ false → too_close work s ≡ 0
+  none e = not-above gap (ap (lt_z (pos 0)) (sym close.read) ∙ e)
 
 pub overflow_sub-close : goal.overflow_sub-close
-overflow_sub-close c = (close (read c)).fits
+overflow_sub-close c = (close c.args.work.now c.args.s c.args.elders c.requires.level c.requires.need c.get.result c.get.type_inv c.get.ensures).fits
 
--- ---- no conflict
+pub share-requires-clause-i_lt_c : goal.share-requires-clause-i_lt_c
+share-requires-clause-i_lt_c c =
+    let h = c.args.elders in
+    let l = c.requires.level in
+    let own = owner_range (get c.args.work.now ANCESTOR (c.args.s.child - 1)) h.first h.child h.default l.low l.high in
+    let size = amount c.args.work.now c.args.s h l c.requires.need c.get.result c.get.type_inv c.get.ensures c.if-close-gt0.true in
+    (omega (arith, c.owner-met.ensures, own.1), l.few.1, omega (arith, size, c.requires.modest))
 
-no-amount : (c : Then1) → amount (read c.before) ≡ 0
-no-amount c =
-    let g = read c.before in
-    not-above (gap g) (ap (λ (z : ℤ). le_z z (pos 0)) (sym (close g).read) ∙ c.if-close-le0.true)
+pub share-requires-clause-c_bound : goal.share-requires-clause-c_bound
+share-requires-clause-c_bound c = (c.requires.level.gathered c.args.elders.child (omega (arith, c.requires.level.low, c.requires.level.high)) (omega arith)).0
 
-pub returns-then-close-le0 : goal.returns-then-close-le0
-returns-then-close-le0 c =
-    let t = c.before.before.before in
-    let g = read t.before in
-    (ap pos (sym (no-amount t)), rw (no-amount t) (c.put.ensures ∙ ap (put (work g) ANCESTOR ((stand g).e - 1)) (child-read g)))
+pub share-requires-clause-by_index : goal.share-requires-clause-by_index
+share-requires-clause-by_index c =
+    let h = c.args.elders in
+    let l = c.requires.level in
+    let own = owner_range (get c.args.work.now ANCESTOR (c.args.s.child - 1)) h.first h.child h.default l.low l.high in
+    λ p low high. (l.gathered p (omega (arith, c.owner-met.ensures, own.0, low)) high).1
 
--- ---- a conflict
+pub returns-clause-amount : goal.returns-clause-amount
+returns-clause-amount c =
+    told c.max.type_inv
+    (c.max.ensures.value ∙ greatest c.args.work.now c.args.s c.args.elders c.requires.level c.requires.need c.get.result c.get.type_inv c.get.ensures)
 
-module _ (c : Else1) where
-  abbrev s₁ : After-get
-  s₁ = read c.before
-
-  above : (gap s₁ ≡ pos (amount s₁)) × (0 < amount s₁)
-  above = is-above (gap s₁) (ap (λ (z : ℤ). le_z z (pos 0)) (sym (close s₁).read) ∙ c.if-close-le0.false)
-
-  difference-is : difference s₁ ≡ pos (amount s₁)
-  difference-is = ap₂ ◌-ℤ◌ (least s₁).read (place s₁).read ∙ above.0
-
-  amount-read : nat_abs (stored (difference s₁)) ≡ amount s₁
-  amount-read = unsigned (difference s₁) (amount s₁) difference-is (omega (arith, (s s₁).requires.modest.1))
-
-pub overflow_cast-close : goal.overflow_cast-close
-overflow_cast-close c =
-    let q = c.before.before in
-    unsigned-fits (difference (s₁ q)) (amount (s₁ q)) (difference-is q) (omega (arith, (s (s₁ q)).requires.modest.1))
-
-pub share-requires : goal.share-requires
-share-requires c =
-    let q = c.before.before in
-    let g = s₁ q in
-    let i = c.owner-i.result in
-    let l = level g in
-    let range = owner_range (get (work g) ANCESTOR ((stand g).b - 1)) (s g).args.f (child g) (s g).args.default l.low l.high in
-    let low : (s g).args.f ≤ i = omega (arith, c.owner-i.ensures, range.0) in
-    let high : i < child g = omega (arith, c.owner-i.ensures, range.1) in
-    let own = l.gathered (child g) (omega (arith, l.low, l.high)) (omega arith) in record { i_lt_c = (high, l.few.1, omega (arith, amount-read q, (s g).requires.modest.1)); c_in_bounds = omega (arith, l.inside.1); c_bound = own.0; by_index = (λ p h g. (l.gathered p (omega (arith, low, h)) g).1) }
-
-pub returns : goal.returns
-returns c =
-    let h = c.before.before.before.before in
-    let o = h.before.before in
-    let q = o.before in
-    let g = s₁ q in
-    let owner : c.owner-i.result ≡ owner_of (get (work g) ANCESTOR ((stand g).b - 1)) (s g).args.f (child g) (s g).args.default = c.owner-i.ensures in
-    let some = ne_eqb (amount g) 0 (λ z. omega (arith, z, (above q).1)) in (
-      (close g).read ∙ (above q).0,
-      rw some
-          (c.put-2.ensures
-          ∙ ap₂ (λ (w : List ℤ) (z : ℤ). put w ANCESTOR ((stand g).e - 1) z)
-          (c.share.ensures ∙ ap₂ (λ (i n : ℕ). shared (work g) i (child g) n) owner (amount-read q))
-          (child-read g)),
-    )
+pub returns-clause-gathered : goal.returns-clause-gathered
+returns-clause-gathered c =
+    let s = c.args.s in
+    let h = c.args.elders in
+    let l = c.requires.level in
+    let child = signed h.child (omega (arith, l.few.1)) in
+    let gathered : c.if-close-gt0.work ≡ noted c.args.work.now s h.first h.child h.default (too_close c.args.work.now s) =
+    elim c.if-close-gt0.branch [
+      | then-close-gt0 w ↦
+          w.work-is ∙ w.share.ensures
+          ∙ sym (noted-some c.args.work.now s h l c.requires.need c.get.result c.get.type_inv c.get.ensures w.if-close-gt0.true w.owner-met.result w.owner-met.ensures)
+      | else-close-gt0 w ↦
+          rw (none c.args.work.now s h l c.requires.need c.get.result c.get.type_inv c.get.ensures w.if-close-gt0.false) w.work-is
+    ] in
+    c.put.ensures ∙ ap₂ (λ (w : List ℤ) (z : ℤ). put w ANCESTOR (s.end - 1) z) gathered child

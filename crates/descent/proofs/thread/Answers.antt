@@ -17,19 +17,16 @@ modest-read : (z : ℤ) → Modest z → stored z ≡ z
 modest-read z h = (held {z = z} refl (omega arith)).read
 
 -- at the function's start
-module _ (work : List ℤ) (stand : Stand) (f c default : ℕ) (given : Level work stand f c default × Threads work stand) where
-  abbrev level : Level work stand f c default
-  level = given.0
-
+module _ (work : List ℤ) (stand : Stand) (f c default : ℕ) (level : Level work stand f c default) (threads : Threads work stand) where
   -- the first position of the row, of the child and past it, one level down
   abbrev next-a : ℕ
-  next-a = first_of_children work stand.a
+  next-a = first_of_children work stand.row
 
   abbrev next-b : ℕ
-  next-b = first_of_children work stand.b
+  next-b = first_of_children work stand.child
 
   abbrev next-e : ℕ
-  next-e = past_children work (stand.e - 1)
+  next-e = past_children work (stand.end - 1)
 
   -- the level below
   abbrev down : Stand
@@ -46,9 +43,9 @@ module _ (work : List ℤ) (stand : Stand) (f c default : ℕ) (given : Level wo
   last-held = plus (modest-read stand.outer_right level.outer_right_modest) moved-read (omega (arith, last-small))
 
   -- the row goes deeper: its next node, and the step to it from the child's last; z is what is read
-  module _ (row-deeper : next-a < next-b) (z : ℤ) (fits : mag z < 2147483648) (is : z ≡ get work RIGHT (stand.b - 1)) where
+  module _ (row-deeper : next-a < next-b) (z : ℤ) (fits : mag z < 2147483648) (is : z ≡ get work RIGHT (stand.child - 1)) where
     right-small : Modest down.right
-    right-small = given.1.row-deeper row-deeper
+    right-small = threads.row-deeper row-deeper
 
     right-held : Held (stored stand.right +ℤ stored z) down.right
     right-held = plus (modest-read stand.right level.right_modest) (told fits is) (omega (arith, right-small))
@@ -60,9 +57,9 @@ module _ (work : List ℤ) (stand : Stand) (f c default : ℕ) (given : Level wo
         (omega (arith, nat_abs_sub down.right (stand.outer_right +ℤ stand.moved), right-small, last-small))
 
   -- the child goes deeper: its next node, as it has been moved, and the step to it from the row's first
-  module _ (child-deeper : next-b < next-e) (z : ℤ) (fits : mag z < 2147483648) (is : z ≡ get work LEFT stand.b) where
+  module _ (child-deeper : next-b < next-e) (z : ℤ) (fits : mag z < 2147483648) (is : z ≡ get work LEFT stand.child) where
     left-small : Modest down.left
-    left-small = given.1.child-deeper child-deeper
+    left-small = threads.child-deeper child-deeper
 
     left-held : Held (stored stand.left +ℤ stored z) down.left
     left-held = plus (modest-read stand.left level.left_modest) (told fits is) (omega (arith, left-small))
@@ -84,15 +81,20 @@ module _ (work : List ℤ) (stand : Stand) (f c default : ℕ) (given : Level wo
 pub overflow_sub-step : goal.overflow_sub-step
 overflow_sub-step c =
     let a = c.args in
-    (right-step a.work.now a.s a.f a.c a.default c.requires (omega arith) c.get.result c.get.type_inv c.get.ensures).fits
+    (right-step a.work.now a.s a.elders.first a.elders.child a.elders.default c.requires.level c.requires.threads (omega arith) c.get.result c.get.type_inv c.get.ensures).fits
 
-pub returns-then-position-next : goal.returns-then-position-next
-returns-then-position-next c =
+pub returns-then-position-next-clause-default : goal.returns-then-position-next-clause-default
+returns-then-position-next-clause-default c =
     let a = c.args in
-    let deeper : first_of_children a.work.now a.s.a < first_of_children a.work.now a.s.b = omega arith in
-    let step = right-step a.work.now a.s a.f a.c a.default c.requires deeper c.get.result c.get.type_inv c.get.ensures in
-    let test = lt-ltb (first_of_children a.work.now a.s.a) (first_of_children a.work.now a.s.b) deeper in
-    (rw test, rw test (c.put.ensures ∙ ap (put a.work.now RIGHT (a.s.e - 1)) step.read))
+    rw (lt-ltb (first_of_children a.work.now a.s.row) (first_of_children a.work.now a.s.child) (omega arith))
+
+pub returns-then-position-next-clause-threaded : goal.returns-then-position-next-clause-threaded
+returns-then-position-next-clause-threaded c =
+    let a = c.args in
+    let deeper : first_of_children a.work.now a.s.row < first_of_children a.work.now a.s.child = omega arith in
+    let step = right-step a.work.now a.s a.elders.first a.elders.child a.elders.default c.requires.level c.requires.threads deeper c.get.result c.get.type_inv c.get.ensures in
+    let test = lt-ltb (first_of_children a.work.now a.s.row) (first_of_children a.work.now a.s.child) deeper in
+    rw test (c.put.ensures ∙ ap (put a.work.now RIGHT (a.s.end - 1)) step.read)
 
 -- ---- it does not
 
@@ -100,23 +102,30 @@ pub overflow_add-step-then-next-past-2 : goal.overflow_add-step-then-next-past-2
 overflow_add-step-then-next-past-2 c =
     let a = c.args in
     let g = c.get-then-next-past in
-    (moved-held a.work.now a.s a.f a.c a.default c.requires (omega arith) g.result g.type_inv g.ensures).fits
+    (moved-held a.work.now a.s a.elders.first a.elders.child a.elders.default c.requires.level c.requires.threads (omega arith) g.result g.type_inv g.ensures).fits
 
 pub overflow_sub-step-then-next-past : goal.overflow_sub-step-then-next-past
 overflow_sub-step-then-next-past c =
     let a = c.args in
     let g = c.get-then-next-past in
-    (left_step a.work.now a.s a.f a.c a.default c.requires (omega arith) g.result g.type_inv g.ensures).fits
+    (left_step a.work.now a.s a.elders.first a.elders.child a.elders.default c.requires.level c.requires.threads (omega arith) g.result g.type_inv g.ensures).fits
 
-pub returns-then-next-past : goal.returns-then-next-past
-returns-then-next-past c =
+pub returns-then-next-past-clause-default : goal.returns-then-next-past-clause-default
+returns-then-next-past-clause-default c =
+    let a = c.args in
+    rw (
+      le-ltb (first_of_children a.work.now a.s.row) (first_of_children a.work.now a.s.child) (omega arith),
+      lt-ltb (first_of_children a.work.now a.s.child) (past_children a.work.now (a.s.end - 1)) (omega arith),
+    )
+
+pub returns-then-next-past-clause-threaded : goal.returns-then-next-past-clause-threaded
+returns-then-next-past-clause-threaded c =
     let a = c.args in
     let g = c.get-then-next-past in
-    let deeper : first_of_children a.work.now a.s.b < past_children a.work.now (a.s.e - 1) = omega arith in
-    let row_ends : first_of_children a.work.now a.s.b ≤ first_of_children a.work.now a.s.a = omega arith in
-    let step = left_step a.work.now a.s a.f a.c a.default c.requires deeper g.result g.type_inv g.ensures in
-    let row-test = le-ltb (first_of_children a.work.now a.s.a) (first_of_children a.work.now a.s.b) row_ends in
-    let child-test = lt-ltb (first_of_children a.work.now a.s.b) (past_children a.work.now (a.s.e - 1)) deeper in (
-      rw (row-test, child-test),
-      rw (row-test, child-test) (c.put-then-next-past.ensures ∙ ap (put a.work.now LEFT a.s.a) step.read),
+    let deeper : first_of_children a.work.now a.s.child < past_children a.work.now (a.s.end - 1) = omega arith in
+    let step = left_step a.work.now a.s a.elders.first a.elders.child a.elders.default c.requires.level c.requires.threads deeper g.result g.type_inv g.ensures in
+    rw (
+      le-ltb (first_of_children a.work.now a.s.row) (first_of_children a.work.now a.s.child) (omega arith),
+      lt-ltb (first_of_children a.work.now a.s.child) (past_children a.work.now (a.s.end - 1)) deeper,
     )
+    (c.put-then-next-past.ensures ∙ ap (put a.work.now LEFT a.s.row) step.read)
