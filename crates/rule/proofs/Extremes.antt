@@ -24,7 +24,7 @@ use Rattle.rule.specs.Drawing.{Drawing, dot, dots}
 use Rattle.rule.specs.Join.{Spacing, plain, added}
 use Rattle.rule.specs.Rule.{draw, drawn}
 use Rattle.rule.specs.Result.{place, places_of, lesser, greater, least_of, greatest_of}
-use Rattle.rule.proofs.Signed.{one-part, parts_add, parts_sub, parts_eq, parts_le, AtMost, at_most, le_z_true, le_z_false, nat_abs_parts}
+use Rattle.rule.proofs.Signed.{one-part, parts_add, parts_sub, parts_eq, parts_le, raised, AtMost, le_z_true, le_z_false, nat_abs_parts}
 use Rattle.tree.proofs.Joined.{Some, some}
 use Rattle.rule.proofs.OnLevel.{OnLevel, top}
 use Rattle.rule.proofs.Lookup.{dot-place}
@@ -204,13 +204,5 @@ pub sheet-width : (D : ℕ) (hs t : List ℕ) → table_number t ≡ 0
     → greatest_of (places_of (plain (needed D hs)) t) ≤ℤ (least_of (places_of (plain (needed D hs)) t) +ℤ pos ((nodes t - 1) * (D + 2 * widest (nodes t) hs)))
 sheet-width D hs t accepted =
     let W = D + 2 * widest (nodes t) hs in
-    let more : nodes t - 2 ≤ nodes t - 1 = omega arith in
-    let least = least_of (places_of (plain (needed D hs)) t) in
-    parts_le _ _
-    (omega (
-      arith,
-      at_most _ _ (width_bound (plain (needed D hs)) t accepted W (needed-at_most hs D (nodes t))),
-      mul-le-mul_right W more,
-      parts_add least (pos ((nodes t - 2) * W + (nodes t - 2) / 2 * 0)),
-      parts_add least (pos ((nodes t - 1) * W)),
-    ))
+    let fewer : nodes t - 2 ≤ nodes t - 1 = omega arith in
+    raised _ _ _ ((nodes t - 1) * W) (width_bound (plain (needed D hs)) t accepted W (needed-at_most hs D (nodes t))) (omega (arith, mul-le-mul_right W fewer))

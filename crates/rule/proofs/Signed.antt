@@ -97,6 +97,10 @@ parts_le (pos a) (negsuc b) h = absurd (omega arith)
 parts_le (negsuc a) (pos b) h = record { le = tt }
 parts_le (negsuc a) (negsuc b) h = record { le = le→leb b a (omega arith) }
 
+-- a bound may be raised
+pub raised : (x y : ℤ) (m k : ℕ) → x ≤ℤ (y +ℤ pos m) → m ≤ k → x ≤ℤ (y +ℤ pos k)
+raised x y m k h more = parts_le x (y +ℤ pos k) (omega (arith, at_most x (y +ℤ pos m) h, parts_add y (pos m), parts_add y (pos k)))
+
 -- of two numbers, one is below the other or not
 pub not-le : (x y : ℤ) → (y ≤ℤ x → ⊥) → x <ℤ y
 not-le x y h = go (lt_z x y) refl
