@@ -1,11 +1,11 @@
 -- Both sums of a row of words, from the last word down, and over eight lanes put together. Assumes nothing.
-use Rattle.std.proofs.Common.{◌≡◌, ℕ, zero, suc, ◌+◌, ◌*◌, ◌%◌, ◌<◌, ◌≤◌, List, [], ◌∷◌, length, sym, refl, ap, ◌∙◌, le_refl, zero-add, zero-mul, arith, le-ltb, lt-ltb}
+use Rattle.std.proofs.Common.{◌≡◌, ℕ, zero, suc, ◌+◌, ◌*◌, ◌%◌, ◌<◌, ◌≤◌, ◌-◌, List, length, replicate, sym, refl, ap, ◌∙◌, le_refl, zero-add, arith, lt-ltb}
+use Rattle.std.proofs.Math.Nat.{sub-zero}
 use Rattle.blocks.specs.Below.{total}
-use Rattle.blocks.specs.Block.{block_words, word_limit, weighted_place, word_at, listed}
-use Rattle.blocks.specs.Sums.{Summed, More, summed_word, eighths, SideBySide}
+use Rattle.blocks.specs.Block.{word_limit, weighted_place, word_at}
+use Rattle.blocks.specs.Sums.{Summed, More, EachMore, summed_word, eighths, lane_count, lane, SideBySide, Grouped}
 use Rattle.blocks.specs.declared.check.Sums.{Sums}
-use Rattle.blocks.specs.declared.check.Lanes.{Lanes}
-use Rattle.blocks.proofs.Below.{further, total_first, total-both, total_cong, total-start, total_groups}
+use Rattle.blocks.proofs.Below.{further, total_first, total-both, total_cong, total_groups}
 
 -- the sums of no words
 pub summed-none : (f : ℕ → ℕ) → Summed 0 f (record { plain = 0; weighted = 0 })
@@ -30,19 +30,37 @@ summed-more n f g s r w sums one first later =
     let plain : r.plain ≡ total (suc n) g % word_limit = omega (arith, sums.plain, one.plain, total_first n g) in
     record { plain = plain; weighted = omega (arith, sums.weighted, one.weighted, weighted-first n g) }
 
--- a word in front of a list of them
-pub more-listed : (words : List ℕ) (s r : Sums) (w : ℕ) → Summed (length words) (listed words) s → More s w r
-    → Summed (suc (length words)) (listed (w ∷ words)) r
-more-listed words s r w sums one = summed-more (length words) _ _ s r w sums one refl (λ i. refl)
+-- the words from a place on up to the last of `count`, with the one before them
+pub from-more : (count : ℕ) (f : ℕ → ℕ) (place : ℕ) (s r : Sums) (w : ℕ) → 0 < place → place ≤ count → Summed (count - place) (λ i. f (place + i)) s
+    → More s w r
+    → w ≡ f (place - 1)
+    → Summed (count - (place - 1)) (λ i. f (place - 1 + i)) r
+from-more count f place s r w some room sums one first =
+    let more : count - (place - 1) ≡ suc (count - place) = omega arith in
+    let at : place - 1 ≡ place - 1 + 0 = omega arith in
+    rw more
+    (summed-more (count - place) _ _ s r w sums one (first ∙ ap f at) (λ i. let next : place + i ≡ place - 1 + suc i = omega arith in ap f next))
+
+-- and all of them
+pub from_all : (count : ℕ) (f : ℕ → ℕ) (place : ℕ) (s : Sums) → place ≡ 0 → Summed (count - place) (λ i. f (place + i)) s → Summed count f s
+from_all count f place s e sums =
+    let start = rw e at sums in
+    simp (sub-zero, zero-add) at start
 
 -- ---- lanes
+
+-- lanes of no words
+abbrev none : Sums
+none = record { plain = 0; weighted = 0 }
+
+none-lane : (n j : ℕ) → lane (replicate n none) j ≡ none
+none-lane zero j = refl
+none-lane (suc n) zero = refl
+none-lane (suc n) (suc j) = none-lane n j
 
 -- the words before the check words are summed, and these are not
 summed_word_lem : (block : List ℕ) (k : ℕ) → k < weighted_place → summed_word block k ≡ word_at block k
 summed_word_lem block k l = rw (lt-ltb k weighted_place l)
-
-not-summed : (block : List ℕ) (k : ℕ) → weighted_place ≤ k → summed_word block k ≡ 0
-not-summed block k l = rw (le-ltb k weighted_place l)
 
 -- one word more in a lane, eight places before its first one
 pub lane-more : (block : List ℕ) (count from next : ℕ) (s r : Sums) → from < weighted_place → next ≡ from + 8 → Summed count (eighths block next) s
@@ -54,25 +72,28 @@ lane-more block count from next s r l e sums one =
     (sym (summed_word_lem block from l) ∙ ap (summed_word block) here)
     (λ k. let later : next + 8 * k ≡ from + 8 * suc k = omega arith in ap (summed_word block) later)
 
--- a lane that has only a check word
-pub lane-none : (block : List ℕ) (k : ℕ) → weighted_place ≤ k → Summed 1 (eighths block k) (record { plain = 0; weighted = 0 })
-unfolding total
-lane-none block k l =
-    let none : eighths block k 0 ≡ 0 = not-summed block (k + 8 * 0) (omega arith) in
-    record { plain = rw none; weighted = rw none }
+-- so in each of eight lanes
+pub grouped : (block : List ℕ) (k : ℕ) (l r : List Sums) → k + 8 ≤ weighted_place → length l ≡ 8 → EachMore block k l r → Grouped block k l r
+grouped block k l r room size one count side =
+    record { each = λ j m. lane-more block count (k + j) (k + 8 + j) _ _ (omega arith) (omega arith) (side.each j m) (one j (omega arith)) }
 
--- the words of a whole block
-pub summed-block : (block : List ℕ) (r : Sums) → Summed block_words (λ i. summed_word block (0 + i)) r → Summed weighted_place (word_at block) r
-summed-block block r S =
-    let word : (k : ℕ) → k < weighted_place → summed_word block (0 + k) ≡ word_at block k = λ k l. ap (summed_word block) (zero-add k) ∙ summed_word_lem block k l in
-    let none : (k : ℕ) → weighted_place ≤ k → summed_word block (0 + k) ≡ 0 = λ k l. ap (summed_word block) (zero-add k) ∙ not-summed block k l in
+-- eight lanes: those below a place have a word more, and the others are as they were
+pub record MoreBelow (block : List ℕ) (from : ℕ) (old new : List Sums) (place : ℕ) : Type 0 where
+  pub long : length new ≡ lane_count
+  pub more : (j : ℕ) → j < place → More (lane old j) (word_at block (from + j)) (lane new j)
+  pub same : (j : ℕ) → place ≤ j → lane new j ≡ lane old j
+
+-- eight lanes of no words
+pub no-groups : (block : List ℕ) (k : ℕ) → SideBySide block k 0 (replicate lane_count none)
+no-groups block k = record { each = λ j m. rw (none-lane lane_count j) (summed-none (eighths block (k + j))) }
+
+-- the words of all groups, up to the check words
+pub summed-groups : (block : List ℕ) (r : Sums) → Summed 248 (λ i. summed_word block (6 + i)) r → Summed 248 (λ i. word_at block (6 + i)) r
+summed-groups block r S =
+    let word : (k : ℕ) → k < 248 → summed_word block (6 + k) ≡ word_at block (6 + k) = λ k l. summed_word_lem block (6 + k) (omega arith) in
     record {
-      plain = S.plain ∙ ap (λ (sum : ℕ). sum % word_limit) (total-start weighted_place 2 _ (λ k l m. none k l) ∙ total_cong weighted_place _ _ word);
-      weighted =
-          S.weighted
-          ∙ ap (λ (sum : ℕ). sum % word_limit)
-          (total-start weighted_place 2 _ (λ k l m. ap (λ (w : ℕ). w * (k + 1)) (none k l) ∙ zero-mul (k + 1))
-          ∙ total_cong weighted_place _ _ (λ k l. ap (λ (w : ℕ). w * (k + 1)) (word k l)));
+      plain = S.plain ∙ ap (λ (sum : ℕ). sum % word_limit) (total_cong 248 _ _ word);
+      weighted = S.weighted ∙ ap (λ (sum : ℕ). sum % word_limit) (total_cong 248 _ _ (λ k l. ap (λ (w : ℕ). w * (k + 1)) (word k l)));
     }
 
 -- sums of summands that are reduced
@@ -108,14 +129,7 @@ unfolding total
 lanes-weighted c zero n f = omega arith
 lanes-weighted c (suc m) n f = omega (arith, lanes-weighted c m n f, lane-weighted c m n (λ i. f (c * i + m)))
 
-module _ (block : List ℕ) (k count : ℕ) (l : Lanes) (sums : SideBySide block k count l) where
-  -- the sums of the lanes
-  abbrev plains : List ℕ
-  plains = l.a.plain ∷ l.b.plain ∷ l.c.plain ∷ l.d.plain ∷ l.e.plain ∷ l.f.plain ∷ l.g.plain ∷ l.h.plain ∷ []
-
-  abbrev weighteds : List ℕ
-  weighteds = l.a.weighted ∷ l.b.weighted ∷ l.c.weighted ∷ l.d.weighted ∷ l.e.weighted ∷ l.f.weighted ∷ l.g.weighted ∷ l.h.weighted ∷ []
-
+module _ (block : List ℕ) (k count : ℕ) (l : List Sums) (side : SideBySide block k count l) where
   -- the row of words, and the sums of lane j before they are reduced
   abbrev row : ℕ → ℕ
   row i = summed_word block (k + i)
@@ -126,38 +140,27 @@ module _ (block : List ℕ) (k count : ℕ) (l : Lanes) (sums : SideBySide block
   abbrev weighted_of : ℕ → ℕ
   weighted_of j = total count (λ i. row (8 * i + j) * (i + 1))
 
-  lane : (j from : ℕ) (s : Sums) → from ≡ k + j → Summed count (eighths block from) s
-      → (s.plain ≡ plain_of j % word_limit) × (s.weighted ≡ weighted_of j % word_limit)
-  lane j from s e S =
-      let word : (i : ℕ) → eighths block from i ≡ row (8 * i + j) = λ i. let place : from + 8 * i ≡ k + (8 * i + j) = omega arith in ap (summed_word block) place in (
+  lanes : (j : ℕ) → j < lane_count → ((lane l j).plain ≡ plain_of j % word_limit) × ((lane l j).weighted ≡ weighted_of j % word_limit)
+  lanes j m =
+      let S = side.each j m in
+      let word : (i : ℕ) → eighths block (k + j) i ≡ row (8 * i + j) = λ i. let place : k + j + 8 * i ≡ k + (8 * i + j) = omega arith in ap (summed_word block) place in (
         S.plain ∙ ap (λ (sum : ℕ). sum % word_limit) (total_cong count _ _ (λ i m. word i)),
         S.weighted ∙ ap (λ (sum : ℕ). sum % word_limit) (total_cong count _ _ (λ i m. ap (λ (w : ℕ). w * (i + 1)) (word i))),
       )
 
-  lanes : (j : ℕ) → j < 8 → (listed plains j ≡ plain_of j % word_limit) × (listed weighteds j ≡ weighted_of j % word_limit)
-  lanes zero m = lane 0 k l.a (omega arith) sums.a
-  lanes (suc zero) m = lane 1 _ l.b refl sums.b
-  lanes (suc (suc zero)) m = lane 2 _ l.c refl sums.c
-  lanes (suc (suc (suc zero))) m = lane 3 _ l.d refl sums.d
-  lanes (suc (suc (suc (suc zero)))) m = lane 4 _ l.e refl sums.e
-  lanes (suc (suc (suc (suc (suc zero))))) m = lane 5 _ l.f refl sums.f
-  lanes (suc (suc (suc (suc (suc (suc zero)))))) m = lane 6 _ l.g refl sums.g
-  lanes (suc (suc (suc (suc (suc (suc (suc zero))))))) m = lane 7 _ l.h refl sums.h
-  lanes (suc (suc (suc (suc (suc (suc (suc (suc j)))))))) m = absurd (omega arith)
-
   -- the lanes put together, from the sums across them
-  pub lanes-together : (sums' counted r : Sums) (groups eight : ℕ) → Summed 8 (listed plains) sums' → Summed 8 (listed weighteds) counted
-      → (groups + sums'.plain) % word_limit ≡ counted.plain
-      → r.plain ≡ sums'.plain
-      → eight ≡ 8 * groups % word_limit
-      → r.weighted ≡ (sums'.weighted + eight) % word_limit
+  pub lanes-together : (sums counted r : Sums) (groups : ℕ) → Summed lane_count (λ j. (lane l j).plain) sums
+      → Summed lane_count (λ j. (lane l j).weighted) counted
+      → (groups + sums.plain) % word_limit ≡ counted.plain
+      → r.plain ≡ sums.plain
+      → r.weighted ≡ (sums.weighted + groups * 8 % word_limit) % word_limit
       → Summed (8 * count) row r
-  lanes-together sums' counted r groups eight P W isGroups is_plain isEight isSum =
-      let plain : sums'.plain ≡ total 8 plain_of % word_limit = P.plain ∙ plain-reduced 8 (listed plains) plain_of (λ j m. (lanes j m).0) in
-      let weighted : sums'.weighted ≡ total 8 (λ j. plain_of j * (j + 1)) % word_limit =
-      P.weighted ∙ weighted-reduced 8 (listed plains) plain_of (λ j m. (lanes j m).0)
+  lanes-together sums counted r groups P W isGroups is_plain isSum =
+      let plain : sums.plain ≡ total 8 plain_of % word_limit = P.plain ∙ plain-reduced 8 _ plain_of (λ j m. (lanes j m).0) in
+      let weighted : sums.weighted ≡ total 8 (λ j. plain_of j * (j + 1)) % word_limit =
+      P.weighted ∙ weighted-reduced 8 _ plain_of (λ j m. (lanes j m).0)
       in
-      let times : counted.plain ≡ total 8 weighted_of % word_limit = W.plain ∙ plain-reduced 8 (listed weighteds) weighted_of (λ j m. (lanes j m).1) in
+      let times : counted.plain ≡ total 8 weighted_of % word_limit = W.plain ∙ plain-reduced 8 _ weighted_of (λ j m. (lanes j m).1) in
       record {
         plain = is_plain ∙ plain ∙ ap (λ (sum : ℕ). sum % word_limit) (sym (total_groups 8 count row));
         weighted = omega (arith, total_groups 8 count (λ i. row i * (i + 1)), lanes-weighted 8 8 count row);

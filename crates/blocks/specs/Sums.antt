@@ -1,9 +1,8 @@
 -- Both sums of a row of words, and how they are come by: from the last word down, and over eight lanes side by side.
-use Rattle.std.specs.Prelude.{◌≡◌, ℕ, suc, ◌+◌, ◌*◌, ◌%◌, cond, List, nat_lt}
+use Rattle.std.specs.Prelude.{◌≡◌, ℕ, suc, ◌+◌, ◌*◌, ◌%◌, ◌<◌, cond, List, length, get_or, nat_lt}
 use Rattle.blocks.specs.Below.{total}
 use Rattle.blocks.specs.Block.{word_limit, weighted_place, word_at}
 use Rattle.blocks.specs.declared.check.Sums.{Sums}
-use Rattle.blocks.specs.declared.check.Lanes.{Lanes}
 
 -- the sums of f 0, .., f (count − 1), modulo 65,536: plain, and weighted by one more than the index
 pub record Summed (count : ℕ) (f : ℕ → ℕ) (s : Sums) : Type 0 where
@@ -23,21 +22,26 @@ summed_word block k = cond (nat_lt k weighted_place) (word_at block k) 0
 abbrev pub eighths : List ℕ → ℕ → ℕ → ℕ
 eighths block k i = summed_word block (k + 8 * i)
 
+-- how many lanes there are
+abbrev pub lane_count : ℕ
+lane_count = 8
+
+-- the sums of lane j
+abbrev pub lane : List Sums → ℕ → Sums
+lane lanes j = get_or lanes j (record { plain = 0; weighted = 0 })
+
+-- some lanes with a word more in each, those from word k on
+abbrev pub EachMore : List ℕ → ℕ → List Sums → List Sums → Type 0
+EachMore block k l r = (j : ℕ) → j < length l → More (lane l j) (word_at block (k + j)) (lane r j)
+
 -- the lanes of 8 × count words of a block, from word k on
-pub record SideBySide (block : List ℕ) (k count : ℕ) (l : Lanes) : Type 0 where
-  pub a : Summed count (eighths block k) l.a
-  pub b : Summed count (eighths block (k + 1)) l.b
-  pub c : Summed count (eighths block (k + 2)) l.c
-  pub d : Summed count (eighths block (k + 3)) l.d
-  pub e : Summed count (eighths block (k + 4)) l.e
-  pub f : Summed count (eighths block (k + 5)) l.f
-  pub g : Summed count (eighths block (k + 6)) l.g
-  pub h : Summed count (eighths block (k + 7)) l.h
+pub record SideBySide (block : List ℕ) (k count : ℕ) (lanes : List Sums) : Type 0 where
+  pub each : (j : ℕ) → j < lane_count → Summed count (eighths block (k + j)) (lane lanes j)
 
 -- lanes with eight words more, in front of the others
-abbrev pub Grouped : List ℕ → ℕ → Lanes → Lanes → Type 0
+abbrev pub Grouped : List ℕ → ℕ → List Sums → List Sums → Type 0
 Grouped block k l r = (count : ℕ) → SideBySide block (k + 8) count l → SideBySide block k (suc count) r
 
 -- the sums of the words of all lanes
-abbrev pub Together : Lanes → Sums → Type 0
+abbrev pub Together : List Sums → Sums → Type 0
 Together l r = (block : List ℕ) (k count : ℕ) → SideBySide block k count l → Summed (8 * count) (λ i. summed_word block (k + i)) r

@@ -13,20 +13,13 @@ pub const WEIGHTED_PLACE: usize = 254;
 
 pub const CLOSING_PLACE: usize = 255;
 
-fn wide(byte: u8) -> u16
-    ensures { (result ≡ byte) × (result < 256) }
-{
-    byte as u16
-}
-
 // Word `place` of a block, the low byte first.
+#[tactic(auto, unfolding(crate::specs::Block::word_at))]
 pub fn word(block: &[u8], place: usize) -> u16
     requires { 2 * place + 1 < length block.now }
     ensures { result ≡ word_at block.now place }
 {
-    let low = wide(block[2 * place]);
-    let high = wide(block[2 * place + 1]);
-    low + 256 * high
+    u16::from_le_bytes([block[2 * place], block[2 * place + 1]])
 }
 
 // Block `place` of a file.
@@ -35,14 +28,14 @@ pub fn block_at(file: &[u8], place: usize) -> &[u8]
     ensures { IsBlock file.now place result.now }
 {
     let start = BLOCK_BYTES * place;
-    let end = start + BLOCK_BYTES;
-    &file[start..end]
+    &file[start..start + BLOCK_BYTES]
 }
 
 // Whether a block's first word is `place`.
+#[tactic(auto, unfolding(crate::specs::Block::in_place))]
 pub fn in_place(block: &[u8], place: usize) -> bool
     requires { length block.now ≡ block_bytes }
     ensures { result ≡ in_place place block.now }
 {
-    word(block, 0) as usize == place
+    usize::from(word(block, 0)) == place
 }
