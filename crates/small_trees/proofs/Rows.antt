@@ -155,8 +155,9 @@ module _ (levels table : List ℕ) (L : Linkable levels table) where
   pub link-level : (v : ℕ) → v < length levels → get_or levels v 0 < most_nodes
   link-level v h = omega (arith, L.few, (sequence_at_lem levels L.sequence v h).1)
 
-  pub link-end : (stored next : List ℕ) → Linking levels stored next 0 → stored ≡ table_of (length levels) (tree_of_levels levels)
-  link-end stored next K = K.rows ∙ rows-table levels L.sequence (omega (arith, L.few))
+  pub link-end : (stored next : List ℕ) (node : ℕ) → Linking levels stored next node → node ≡ 0 → stored ≡ table_of (length levels) (tree_of_levels levels)
+  link-end stored next zero K none = K.rows ∙ rows-table levels L.sequence (omega (arith, L.few))
+  link-end stored next (suc node) K none = absurd (omega arith)
 
   module _ (stored next : List ℕ) (node v : ℕ) (K : Linking levels stored next node) (e : node ≡ v + 1) where
     level : ℕ

@@ -17,6 +17,7 @@ use Rattle.tree.proofs.Tests.{any_false, up_to-all}
 use Rattle.small_trees.specs.SmallTrees.{further, sequences, tree_count, sequence_at, most_nodes}
 use Rattle.small_trees.specs.Steps.{Ways, Choice, Chosen, InList}
 use Rattle.small_trees.specs.declared.levels.Branch.{Branch}
+use Rattle.small_trees.specs.declared.levels.TheConstants.{WAYS}
 use Rattle.small_trees.proofs.Listed.{branches}
 use Rattle.small_trees.proofs.AllComplete.{at_length}
 
@@ -39,6 +40,11 @@ ways-at table all m l h =
 
 pub right-ways : (table : List ℕ) → length table ≡ 64 → any (λ k. not (right table k)) (up_to 64) ≡ false → Ways table
 right-ways table size all = record { size = size; count = ways-at table all }
+
+-- the code's table
+pub counts-right : Ways WAYS
+unfolding further
+counts-right = right-ways WAYS refl refl
 
 -- ---- the next level
 
@@ -127,6 +133,11 @@ module _ (more behind place : ℕ) where
         go zero e w = absurd (not-suc-le-zero w)
         go (suc zero) e w = omega (arith, ap length (append-nil head), length-map (further more level) (λ s. level ∷ s))
         go (suc (suc left)) e w = absurd (omega arith)
+
+    pub chosen-last : behind < level → Chosen more behind place (record { level = behind + 1; place = rest })
+    chosen-last h =
+        let deep : level ≡ behind + 1 = omega (arith, level-deep) in
+        subst (λ (l : ℕ). Chosen more behind place (record { level = l; place = rest })) deep (chosen (last_within h))
 
 -- the way at the place itself
 chosen-here : (more behind place : ℕ) (b : Branch) → Chosen more behind place b

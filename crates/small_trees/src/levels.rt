@@ -1,7 +1,7 @@
 // The level sequence at a place of the list. Level by level, the sequences that begin with a smaller level there are counted off.
 ghost use Rattle.std.specs.Prelude.{◌≡◌, ◌+◌, ◌<◌, length};
 ghost use Rattle.small_trees.specs.SmallTrees.{further, sequence_at};
-ghost use Rattle.small_trees.specs.Steps.{Ways, Choice, Chosen, InList};
+ghost use Rattle.small_trees.specs.Steps.{Choice, Chosen, InList};
 
 // How many counts a row of WAYS has.
 const ROW: usize = 8;
@@ -17,13 +17,13 @@ const ROW: usize = 8;
 //         5   42 132 297
 //         6  132 429
 //         7  429
-pub const WAYS: [u16; 64] = [
+pub static WAYS: [u16; 64] = [
     1, 1, 1, 1, 1, 1, 1, 1, 1, 2, 3, 4, 5, 6, 7, 0, 2, 5, 9, 14, 20, 27, 0, 0, 5, 14, 28, 48, 75,
     0, 0, 0, 14, 42, 90, 165, 0, 0, 0, 0, 42, 132, 297, 0, 0, 0, 0, 0, 132, 429, 0, 0, 0, 0, 0, 0,
     429, 0, 0, 0, 0, 0, 0, 0,
 ];
 
-// A next level, and a place among the ways to go on behind it.
+// A level, and a place among the ways to go on behind it.
 #[derive(Clone, Copy)]
 pub struct Branch {
     pub level: usize,
@@ -31,49 +31,42 @@ pub struct Branch {
 }
 
 // How many ways there are to go on for `more` levels behind a level.
-pub fn ways(counts: &[u16], more: usize, behind: usize) -> u16
-    requires ways { Ways counts.now }
-    requires behind_bound { more + behind < 8 }
+pub fn ways(more: usize, behind: usize) -> u16
+    requires { more + behind < 8 }
     ensures { result ≡ length (further more behind) }
 {
-    counts[ROW * more + behind]
+    WAYS[ROW * more + behind]
 }
 
 // The next level behind a level, with `more` levels after it, at a place among the ways to go on: the greatest takes what is left.
-pub fn choose(counts: &[u16], more: usize, behind: usize, place: u16) -> Branch
-    requires ways { Ways counts.now }
-    requires choice { Choice more behind place }
-    ensures { Chosen more behind place result }
+pub fn choose(more: usize, behind: Branch) -> Branch
+    requires { Choice more behind.level behind.place }
+    ensures { Chosen more behind.level behind.place result }
 {
-    let mut level: usize = 1;
-    let mut rest = place;
-    while level <= behind {
-        let count = ways(counts, more, level);
+    let mut rest = behind.place;
+    for level in 1..=behind.level {
+        let count = ways(more, level);
         if rest < count {
-            break;
+            return Branch { level, place: rest };
         }
         rest -= count;
-        level += 1;
     }
-    Branch { level, place: rest }
+    Branch {
+        level: behind.level + 1,
+        place: rest,
+    }
 }
 
 // The levels at a place of the list of as many nodes as there is room for.
-pub fn levels_at(counts: &[u16], place: u16, levels: &mut [usize])
-    requires ways { Ways counts.now }
-    requires in_list { InList place levels.old }
+pub fn levels_at(place: u16, levels: &mut [usize])
+    requires { InList place levels.old }
     ensures { levels.new ≡ sequence_at (length levels.old) place }
 {
     let nodes = levels.len();
     levels[0] = 0;
-    let mut behind: usize = 0;
-    let mut rest = place;
-    let mut node: usize = 1;
-    while node < nodes {
-        let next = choose(counts, nodes - 1 - node, behind, rest);
-        behind = next.level;
-        rest = next.place;
-        levels[node] = behind;
-        node += 1;
+    let mut behind = Branch { level: 0, place };
+    for node in 1..nodes {
+        behind = choose(nodes - 1 - node, behind);
+        levels[node] = behind.level;
     }
 }

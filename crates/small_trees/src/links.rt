@@ -31,9 +31,7 @@ pub fn link(levels: &[usize], table: &mut [u16])
     ensures { table.new ≡ table_of (length levels.now) (tree_of_levels levels.now) }
 {
     let mut next = [NONE; LEVELS];
-    let mut node = levels.len();
-    while node > 0 {
-        node -= 1;
+    for node in (0..levels.len()).rev() {
         link_node(levels[node], node, &mut next, table);
     }
 }

@@ -111,7 +111,7 @@ module _ (n place : ℕ) (profile left levels : List ℕ) (behind rest node : �
       ways-few few = omega (arith, C.deep, G.shallow)
 
       -- the dots suffice
-      pub descend_next : n ≤ most_nodes → (get_or left b.level 0 ≡ 0 → ⊥)
+      pub descend_next : n ≤ most_nodes → 1 ≤ get_or left b.level 0
           → Descending n place profile (set left b.level (get_or left b.level 0 - 1)) (set levels node b.level) b.level b.place (node + 1)
       descend_next few enough =
           let next : take (node + 1) (set levels node b.level) ≡ longer =
@@ -143,7 +143,6 @@ module _ (n place : ℕ) (profile left levels : List ℕ) (behind rest node : �
                 ap (λ (i : ℕ). get_or (set left b.level (get_or left b.level 0 - 1)) i 0) s.0,
                 get_or-set_same left b.level (get_or left b.level 0 - 1) 0 (omega (arith, G.size, level-small few)),
                 ap (λ (i : ℕ). get_or left i 0) s.0,
-                positive (get_or left b.level 0) enough,
               ))
               (λ s.
               omega (
@@ -154,10 +153,6 @@ module _ (n place : ℕ) (profile left levels : List ℕ) (behind rest node : �
                 get_or-set_other left b.level l (get_or left b.level 0 - 1) 0 s.0,
               ))
               (is-cases l b.level)
-            where
-              positive : (m : ℕ) → (m ≡ 0 → ⊥) → 1 ≤ m
-              positive zero d = absurd (d refl)
-              positive (suc m) d = omega arith
 
       -- they do not: all that goes on from this level is passed
       pub descend_passed : n ≤ most_nodes → get_or left b.level 0 ≡ 0 → (levels' : List ℕ)

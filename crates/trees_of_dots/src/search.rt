@@ -3,7 +3,6 @@ ghost use Rattle.std.specs.Prelude.{◌≡◌, true, ◌*◌, ◌<◌, length};
 ghost use Rattle.tree.specs.Forest.{table_of};
 ghost use Rattle.small_trees.specs.Sequence.{is_sequence, tree_of_levels};
 ghost use Rattle.small_trees.specs.SmallTrees.{tree_count};
-ghost use Rattle.small_trees.specs.Steps.{Ways};
 ghost use Rattle.plots.specs.Points.{points_of, table_fits};
 ghost use Rattle.plots.specs.Dots.{Profile};
 ghost use Rattle.trees_of_dots.specs.TreesOfDots.{fitting_places, answer_of};
@@ -11,7 +10,7 @@ ghost use Rattle.trees_of_dots.specs.Steps.{Plot, Drawable, Descends, Descended,
 
 use super::Fitting;
 use plots::{all_dots, profile_of};
-use small_trees::levels::{WAYS, choose, ways};
+use small_trees::levels::{Branch, choose, ways};
 use small_trees::links::link;
 
 // Whether the tree at a place fits, and how many places on the search goes.
@@ -57,41 +56,28 @@ fn levels_fit(levels: &[usize], dots: &[i32], separation: u16) -> bool
 
 // Stores the levels at a place as long as the dots on each level suffice, with `left` of them: 0, or how many places from this one on begin
 // with the same levels, the last of which is one too many.
-fn descend(counts: &[u16], place: u16, left: &mut [u16], levels: &mut [usize]) -> u16
-    requires ways { Ways counts.now }
-    requires descends { Descends place left.old levels.old }
+fn descend(place: u16, left: &mut [u16], levels: &mut [usize]) -> u16
+    requires { Descends place left.old levels.old }
     ensures { Descended (length levels.old) place left.old result levels.new }
 {
     let nodes = levels.len();
     levels[0] = 0;
-    let mut behind: usize = 0;
-    let mut rest = place;
-    let mut node: usize = 1;
-    while node < nodes {
+    let mut behind = Branch { level: 0, place };
+    for node in 1..nodes {
         let more = nodes - 1 - node;
-        let next = choose(counts, more, behind, rest);
-        behind = next.level;
-        rest = next.place;
-        if left[behind] == 0 {
-            return ways(counts, more, behind) - rest;
-        }
-        left[behind] -= 1;
-        levels[node] = behind;
-        node += 1;
+        behind = choose(more, behind);
+        let level = behind.level;
+        let Some(fewer) = left[level].checked_sub(1) else {
+            return ways(more, level) - behind.place;
+        };
+        left[level] = fewer;
+        levels[node] = level;
     }
     0
 }
 
 // Whether the tree at a place fits; one that has too many nodes on a level is passed, with those that begin alike.
-fn try_place(
-    counts: &[u16],
-    profile: [u16; 8],
-    nodes: usize,
-    place: u16,
-    dots: &[i32],
-    separation: u16,
-) -> Tried
-    requires ways { Ways counts.now }
+fn try_place(profile: [u16; 8], nodes: usize, place: u16, dots: &[i32], separation: u16) -> Tried
     requires profile { Profile (points_of dots.now) profile }
     requires plot { Plot nodes dots.now separation }
     requires place_bound { place < tree_count nodes }
@@ -99,7 +85,7 @@ fn try_place(
 {
     let mut left = profile;
     let mut levels = [0usize; 8];
-    let skip = descend(counts, place, &mut left, &mut levels[..nodes]);
+    let skip = descend(place, &mut left, &mut levels[..nodes]);
     if skip != 0 {
         return Tried {
             fits: false,
@@ -139,12 +125,11 @@ pub fn search(nodes: usize, dots: &[i32], separation: u16) -> Fitting
     if profile[0] == 0 {
         return Fitting::None;
     }
-    let counts = WAYS;
-    let places = ways(&counts, nodes - 1, 0);
+    let places = ways(nodes - 1, 0);
     let mut found = Fitting::None;
     let mut place: u16 = 0;
     while place < places {
-        let tried = try_place(&counts, profile, nodes, place, dots, separation);
+        let tried = try_place(profile, nodes, place, dots, separation);
         if tried.fits {
             found = with_place(found, place);
         }

@@ -3,13 +3,7 @@ use Rattle.small_trees.proofs.Answer.{stored_linkable, stored-table}
 use Rattle.small_trees.proofs.write_tree.Goals as goal
 
 pub link-requires : goal.link-requires
-link-requires c =
-    let call = c.levels_at in
-    stored_linkable c.args.place c.args.levels.now c.args.table.now c.requires.in_list c.requires.table_len call.new.levels call.ensures
+link-requires c = stored_linkable _ _ _ c.requires.in_list c.requires.table_len _ c.levels_at.ensures
 
 pub returns : goal.returns
-returns c =
-    let call = c.levels_at in
-    let link = c.link in
-    stored-table c.args.place c.args.levels.now c.args.table.now c.requires.in_list c.requires.table_len call.new.levels link.new.table call.ensures
-    link.ensures
+returns c = stored-table _ _ _ c.requires.in_list c.requires.table_len _ _ c.levels_at.ensures c.link.ensures

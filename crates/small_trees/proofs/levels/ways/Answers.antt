@@ -1,6 +1,6 @@
--- A count is read. Assumes nothing.
+-- A count is read from the table. Assumes nothing.
+use Rattle.small_trees.proofs.Ways.{counts-right}
 use Rattle.small_trees.proofs.levels.ways.Goals as goal
 
 pub returns : goal.returns
-returns c =
-    c.requires.ways.count c.args.more c.args.behind c.requires.behind_bound
+returns c = counts-right.count c.args.more c.args.behind c.requires

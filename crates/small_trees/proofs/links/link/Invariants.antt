@@ -4,6 +4,3 @@ use Rattle.small_trees.proofs.links.link.Given as goal
 
 abbrev pub invariant-loop-node : goal.invariant-loop-node
 invariant-loop-node l = Linking l.levels l.table l.next l.node
-
-abbrev pub decreases-loop-node : goal.decreases-loop-node
-decreases-loop-node l = l.node

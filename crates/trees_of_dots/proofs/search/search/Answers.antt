@@ -1,9 +1,8 @@
 -- The loop over the places of the list. Assumes nothing.
-use mathlib.Core.Path.{refl, ◌∙◌, subst⁻¹}
+use mathlib.Core.Path.{◌∙◌, subst⁻¹}
 use Prim.Native.Nat.{◌+◌}
 use native.Mathlib.Omega.{arith}
-use Rattle.small_trees.specs.SmallTrees.{further}
-use Rattle.small_trees.proofs.Ways.{right-ways, count-ways}
+use Rattle.small_trees.proofs.Ways.{count-ways}
 use Rattle.plots.specs.Points.{points_of}
 use Rattle.trees_of_dots.specs.declared.Fitting.{Fitting}
 use Rattle.trees_of_dots.proofs.Searching.{Searched, search_start, found_few, search_found, search_missed, search_end}
@@ -17,18 +16,15 @@ pub overflow_sub-nodes : goal.overflow_sub-nodes
 overflow_sub-nodes c = c.requires.some
 
 pub ways-places-requires : goal.ways-places-requires
-unfolding further
-ways-places-requires c = record { ways = right-ways _ refl refl; behind_bound = omega (arith, c.requires.few, c.requires.some) }
+ways-places-requires c = omega (arith, c.requires.few, c.requires.some)
 
 pub loop-place-init : goal.loop-place-init
 loop-place-init c = search_start c.args.nodes c.args.separation (points_of c.args.dots.now)
 
 -- the count of places is known
 pub try_place-tried-requires : goal.try_place-tried-requires
-unfolding further
 try_place-tried-requires c =
     record {
-      ways = right-ways _ refl refl;
       profile = c.profile_of-profile.ensures;
       plot = c.requires;
       place_bound = omega (arith, count-ways c.args.nodes c.requires.some);

@@ -32,12 +32,9 @@ descend-skip-requires c =
     let a = c.args in
     let n-kept = room a.nodes c.requires.plot.few in
     record {
-      ways = c.requires.ways;
-      descends = record {
-        few = omega (arith, n-kept, c.requires.plot.few);
-        within = subst⁻¹ (λ (k : ℕ). a.place < tree_count k) n-kept c.requires.place_bound;
-        size = c.requires.profile.size;
-      };
+      few = omega (arith, n-kept, c.requires.plot.few);
+      within = subst⁻¹ (λ (k : ℕ). a.place < tree_count k) n-kept c.requires.place_bound;
+      size = c.requires.profile.size;
     }
 
 -- the levels are stored, or places are passed
