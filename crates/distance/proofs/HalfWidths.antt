@@ -5,7 +5,6 @@ use mathlib.Core.Bool.{Bool, true, false, ◌||◌}
 use mathlib.Core.List.{List}
 use Prim.Native.Nat.{ℕ, zero, suc, ◌+◌, ◌*◌, ◌≤◌, ◌<◌, max}
 use native.Mathlib.Nat.{le_refl, le_of_suc-le-suc, eq-or-lt_of_le}
-use native.Mathlib.Numerals.{add-one}
 use native.Mathlib.Omega.{arith}
 use lib.Dec.{ltb}
 use lib.ListN.{length, take, get_or-eq_default}
@@ -15,9 +14,6 @@ use Rattle.refusal.proofs.Truth.{true-or-false, or-false-left, or-false-right, o
 use Rattle.distance.specs.Needed.{half_width, needed, widest, bad_half_widths}
 
 module _ (hs : List ℕ) where
-  pub widest-more : (n : ℕ) → widest (n + 1) hs ≡ max (widest n hs) (half_width hs n)
-  widest-more n = rw add-one
-
   -- no half-width of the first n nodes is above the greatest
   pub at_most-widest : (n v : ℕ) → v < n → half_width hs v ≤ widest n hs
   at_most-widest zero v h = absurd (omega arith)

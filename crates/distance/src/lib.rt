@@ -1,16 +1,10 @@
 // What neighbours need: the test of a sheet's half-widths.
 #![tactic(auto)]
 
-ghost use Rattle.std.specs.Prelude.{◌≡◌, ◌≤◌, max, length};
+ghost use Rattle.std.specs.Prelude.{◌≡◌, ◌≤◌, length};
 ghost use Rattle.distance.specs.Needed as needed;
 
 const MOST_HALF_WIDTH: u16 = 256;
-
-fn greater(x: u16, y: u16) -> u16
-    ensures { result ≡ max x y }
-{
-    if x < y { y } else { x }
-}
 
 // The greatest of the first n half-widths.
 fn widest(widths: &[u16], n: usize) -> u16
@@ -18,10 +12,8 @@ fn widest(widths: &[u16], n: usize) -> u16
     ensures { result ≡ needed.widest n widths.now }
 {
     let mut most: u16 = 0;
-    let mut v = 0;
-    while v < n {
-        most = greater(most, widths[v]);
-        v += 1;
+    for v in 0..n {
+        most = most.max(widths[v]);
     }
     most
 }

@@ -1,5 +1,6 @@
 -- What the inner functions of the operations give, in the code's own shape.
-use Rattle.std.specs.Prelude.{ℕ, ◌+◌, ◌-◌, ◌*◌, ◌≤◌, ◌<◌, ◌≡◌, Bool, false, cond, List, [], ◌∷◌, eqb, length, get_or, take, set}
+use Rattle.std.specs.Prelude.{ℕ, ◌+◌, ◌-◌, ◌*◌, ◌≤◌, ◌<◌, ◌≡◌, Bool, true, false, Option, Some, None, cond, List, [], ◌∷◌, eqb, length, get_or, take, set}
+use Rattle.tree.specs.declared.judge.Names.{Names}
 use Rattle.tree.specs.Table.{none, nodes}
 use Rattle.tree.specs.Forest.{tree_of, size, preorder}
 use Rattle.tree.specs.Levels.{children_of}
@@ -22,6 +23,19 @@ pub record Scanned (t : List ℕ) (b r m : Bool) : Type 0 where
   pub bad : b ≡ bad_entry t
   pub repeated : b ≡ false → r ≡ named_twice t
   pub missing : b ≡ false → r ≡ false → m ≡ unnamed t
+
+-- what a scan says: none where an entry is bad
+abbrev pub entry_bad : Option Names → Bool
+entry_bad None = true
+entry_bad (Some names) = false
+
+abbrev pub name_repeated : Option Names → Bool
+name_repeated None = false
+name_repeated (Some names) = names.repeated
+
+abbrev pub name_missing : Option Names → Bool
+name_missing None = false
+name_missing (Some names) = names.missing
 
 -- A stack at the end of a slice: its top is at index low, and an entry that names a node is put below it.
 abbrev pub pushed_low : ℕ → ℕ → ℕ

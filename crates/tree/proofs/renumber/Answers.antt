@@ -4,6 +4,4 @@ use Rattle.tree.proofs.Accepted.{good_length}
 use Rattle.tree.proofs.renumber.Goals as goal
 
 pub renumber_in-requires-2 : goal.renumber_in-requires-2
-renumber_in-requires-2 c =
-    let s = c.before.before.before.before.before.before.before.before in
-    record { enough = λ ok. omega (arith, (good_length s.args.table.now ok).2) }
+renumber_in-requires-2 c = record { enough = λ ok. omega (arith, (good_length c.args.table.now ok).2) }

@@ -12,12 +12,8 @@ clear : (n k : ℕ) → n ≤ k → Unmarked n (replicate k false)
 clear n k h =
     record { enough = omega (arith, length-replicate {A = Bool} k false); clear = λ v l. get_or-replicate {A = Bool} k v false false (omega arith) }
 
-pub scan-requires : goal.scan-requires
-scan-requires c =
-    let s = c.before.before.before.before in
-    record { table_value = s.requires; unmarked = clear (nodes s.args.table.now) 64 (omega arith) }
+pub scan-requires-clause-unmarked : goal.scan-requires-clause-unmarked
+scan-requires-clause-unmarked c = clear (nodes c.args.table.now) 64 (omega arith)
 
-pub scan-requires-2 : goal.scan-requires-2
-scan-requires-2 c =
-    let s = c.before.before.before.before in
-    record { table_value = s.requires; unmarked = clear (nodes s.args.table.now) 1024 (omega (arith, (good_length s.args.table.now s.requires).2)) }
+pub scan-requires-2-clause-unmarked : goal.scan-requires-2-clause-unmarked
+scan-requires-2-clause-unmarked c = clear (nodes c.args.table.now) 1024 (omega (arith, (good_length c.args.table.now c.requires).2))

@@ -1,11 +1,7 @@
 -- `tree::relink::invert` meets its contract. Assumes nothing.
-use Prim.Native.Nat.{◌-◌}
 use lib.ListN.{length}
 use Rattle.tree.proofs.Links.{Inverting}
 use Rattle.tree.proofs.relink.invert.Given as goal
 
 abbrev pub invariant-loop-k : goal.invariant-loop-k
 invariant-loop-k l = Inverting l.old l.new (length l.initial.new) l.k
-
-abbrev pub decreases-loop-k : goal.decreases-loop-k
-decreases-loop-k l = length l.old - l.k
