@@ -6,15 +6,18 @@ use mathlib.Core.List.{List, [], ◌∷◌, ◌++◌, append-nil}
 use lib.ListN.{length}
 use lib.Dec.{eqb, ltb}
 use borrow.Author.Tests.{eq-eqb, ne_eqb, eqb-false, lt-ltb, le-ltb, ltb-false}
-use Rattle.refusal.specs.First.{◌⇐◌}
 use Rattle.refusal.specs.After.{overwrite}
 use Rattle.refusal.proofs.After.{granted-accepted, granted-refused, after-accepted, after-refused, sets_start}
 use Rattle.refusal.proofs.Laws.{first-none}
+use Rattle.refusal.specs.Number.{number}
+use Rattle.refusal.specs.declared.Refusal.{Refusal}
+use Rattle.refusal.proofs.Numbers.{number-nonzero}
+use Rattle.std.specs.Prelude.{Ok, Err}
 use Rattle.refusal.proofs.Truth.{or-false-left, or-false-right}
 use Rattle.tree.specs.Forest.{Forest, nil, node, size}
 use Rattle.newick.specs.Text.{comma, semicolon, Labels, subtree_text, list_text, IsText}
 use Rattle.newick.specs.Reading.{is_digit, tree_read}
-use Rattle.newick.specs.Read.{most_bytes, most_nodes, room_wrong, nodes_of, links_of, tapes_of, refusal, NewickRead}
+use Rattle.newick.specs.Read.{most_bytes, most_nodes, conditions, nodes_of, links_of, tapes_of, refusal, answer_of, NewickRead}
 use Rattle.newick.specs.Steps.{tree_number, rows_from, Stands, Stops, ListHere, ListRead}
 use Rattle.newick.specs.declared.rows.Reached.{Reached}
 use Rattle.newick.proofs.Shown.{read_text}
@@ -63,13 +66,14 @@ pub record Fits (n t p : ℕ) : Type 0 where
   pub in_table : 2 * n ≤ t
   pub in_tapes : 2 * n ≤ p
 
-number_fits : (n t p : ℕ) → tree_number n t p ≡ 0 → Fits n t p
-unfolding tree_number
-number_fits n t p e =
-    let h = first-none (15 ⇐ eqb n 0 ∷ 16 ⇐ ltb most_nodes n ∷ 7 ⇐ room_wrong n t p ∷ []) (omega arith) e in
+pub fits_told : (text : List ℕ) (t p : ℕ) → refusal text t p ≡ 0 → Fits (nodes_of text) t p
+unfolding refusal
+fits_told text t p e =
+    let n = nodes_of text in
+    let h = first-none (conditions text t p) (omega arith) e in
     let room = h.1.1.0 in
     record {
-      some = eqb-false n 0 h.0;
+      some = eqb-false n 0 (or-false-right (ltb most_bytes (length text)) (eqb n 0) h.0);
       few = ltb-false most_nodes n h.1.0;
       in_table = ltb-false t (2 * n) (or-false-left (ltb t (2 * n)) (ltb p (2 * n)) room);
       in_tapes = ltb-false p (2 * n) (or-false-right (ltb t (2 * n)) (ltb p (2 * n)) room);
@@ -83,20 +87,12 @@ unfolding nodes_of
 text_of text some = read_text text (λ e. some (ap size e))
 
 module _ (text table tapes : List ℕ) where
-  -- from what the steps gave: the count n, and the number k
-  module _ {n k : ℕ} (is : n ≡ nodes_of text) (e : k ≡ tree_number n (length table) (length tapes)) where
-    pub number-told : length text ≤ most_bytes → refusal text (length table) (length tapes) ≡ k
-    number-told short = number_of text (length table) (length tapes) short ∙ ap (λ (m : ℕ). tree_number m (length table) (length tapes)) (sym is) ∙ sym e
-
-    pub fits_told : k ≡ 0 → Fits (nodes_of text) (length table) (length tapes)
-    fits_told z = subst (λ (m : ℕ). Fits m (length table) (length tapes)) is (number_fits n (length table) (length tapes) (sym e ∙ z))
-
-  pub refused-read : (k : ℕ) → (k ≡ 0 → ⊥) → refusal text (length table) (length tapes) ≡ k
-      → NewickRead text table tapes (record { number = k; nodes = 0 }) table tapes
-  refused-read k some e =
-      let no : refusal text (length table) (length tapes) ≡ 0 → ⊥ = λ z. some (sym e ∙ z) in
+  pub refused_read : (why : Refusal) → number why ≡ refusal text (length table) (length tapes)
+      → NewickRead text table tapes (answer_of (Err why)) table tapes
+  refused_read why e =
+      let no : refusal text (length table) (length tapes) ≡ 0 → ⊥ = λ z. number-nonzero why (e ∙ z) in
       record {
-        number = sym e;
+        number = e;
         nodes = sym (granted-refused (refusal text (length table) (length tapes)) (nodes_of text) 0 no);
         table-after = sym (after-refused (refusal text (length table) (length tapes)) (links_of (tree_read text)) table no);
         tapes-after = sym (after-refused (refusal text (length table) (length tapes)) (tapes_of (tree_read text)) tapes no);
@@ -137,14 +133,14 @@ module _ (text table tapes : List ℕ) where
       room = record { few = omega (arith, size-tree, fits.few); in_table = omega (arith, size-tree, fits.in_table); in_tapes = omega (arith, size-tree, fits.in_tapes) };
     }
 
-    pub accepted-read : {n : ℕ} {r : Reached} {table' tapes' : List ℕ} → n ≡ nodes_of text → refusal text (length table) (length tapes) ≡ 0
+    pub accepted-read : {n : ℕ} {r : Reached} {table' tapes' : List ℕ} → nodes_of text ≡ n → refusal text (length table) (length tapes) ≡ 0
         → ListRead text 0 0 table tapes r table' tapes'
-        → NewickRead text table tapes (record { number = 0; nodes = n }) table' tapes'
+        → NewickRead text table tapes (answer_of (Ok n)) table' tapes'
     accepted-read is e read =
         let got = read whole.root whole.below nil semicolon [] tree-stands semicolon-stops in
         record {
           number = sym e;
-          nodes = is ∙ sym (granted-accepted (refusal text (length table) (length tapes)) (nodes_of text) 0 e);
+          nodes = sym is ∙ sym (granted-accepted (refusal text (length table) (length tapes)) (nodes_of text) 0 e);
           table-after =
               got.table-after
               ∙ sets_start (rows_from 0 tree) table (omega (arith, length-rows 0 tree, size-tree, fits.in_table))

@@ -2,10 +2,10 @@
 use mathlib.Core.Path.{◌≡◌, ap, ap₂, ◌∙◌, subst⁻¹}
 use Prim.Native.Nat.{ℕ, ◌+◌, ◌-◌, ◌*◌, ◌/◌, ◌%◌, ◌≤◌, ◌<◌}
 use native.Mathlib.Omega.{arith}
-use mathlib.Core.Bool.{true, false, ◌&&◌}
+use mathlib.Core.Bool.{true, ◌&&◌}
 use mathlib.Core.List.{[], ◌∷◌, ◌++◌}
 use lib.Dec.{leb}
-use borrow.Author.Tests.{le-leb, lt-leb, leb-true}
+use borrow.Author.Tests.{le-leb, leb-true}
 use Rattle.refusal.proofs.Truth.{and_left, and_right}
 use Rattle.lines.specs.Decimal.{zero_byte, digit, decimal}
 use Rattle.lines.proofs.Decimal.{by-tens, decimal-small, decimal-large}
@@ -15,10 +15,6 @@ use Rattle.newick.specs.Reading.{is_digit}
 pub is_digit_lem : (byte : ℕ) → zero_byte ≤ byte → byte ≤ digit 9 → is_digit byte ≡ true
 unfolding is_digit
 is_digit_lem byte low high = ap₂ ◌&&◌ (le-leb _ _ low) (le-leb _ _ high)
-
-pub below-digits : (byte : ℕ) → byte < zero_byte → is_digit byte ≡ false
-unfolding is_digit
-below-digits byte h = simp (lt-leb zero_byte byte h)
 
 pub digit_low : (byte : ℕ) → is_digit byte ≡ true → zero_byte ≤ byte
 unfolding is_digit

@@ -5,14 +5,14 @@ use native.Mathlib.Omega.{arith}
 use mathlib.Core.Bool.{Bool, true, false, cond}
 use mathlib.Core.List.{List, [], ◌∷◌, ◌++◌}
 use lib.ListN.{length, get_or, drop}
-use Rattle.lines.specs.Decimal.{zero_byte, digit, decimal, value_after}
+use Rattle.lines.specs.Decimal.{zero_byte, decimal, value_after}
 use Rattle.lines.proofs.ReadBack.{read_back}
 use Rattle.tree.proofs.Counting.{All}
 use Rattle.tree.proofs.Places.{from_place}
 use Rattle.newick.specs.Text.{most_label}
 use Rattle.newick.specs.Reading.{is_digit}
 use Rattle.newick.specs.Steps.{leading, label_after, label_at, LabelHere}
-use Rattle.newick.proofs.Digits.{digit_low, digit-high, decimal-digits}
+use Rattle.newick.proofs.Digits.{decimal-digits}
 
 -- ---- by what the test says of the first byte
 
@@ -52,22 +52,16 @@ Passed text at value end = (label_after value (drop end text) ≡ label_at text 
 
 -- a turn of the loop, at a digit
 pub record DigitTurn (text : List ℕ) (at value end : ℕ) : Type 0 where
-  pub within : end < length text
-  pub low : zero_byte ≤ get_or text end 0
-  pub high : get_or text end 0 ≤ digit 9
   pub fits : 10 * value + (get_or text end 0 - zero_byte) ≤ most_label
   pub falls : leading (drop (end + 1) text) < leading (drop end text)
   pub again : Passed text at (10 * value + (get_or text end 0 - zero_byte)) (end + 1)
 
 module _ (text : List ℕ) (at value end : ℕ) (here : LabelHere text at) (passed : Passed text at value end) where
-  pub passed-within : end < length text
+  passed-within : end < length text
   passed-within = omega (arith, here.ends, passed.1)
 
   pub passed_turn : is_digit (get_or text end 0) ≡ true → DigitTurn text at value end
   passed_turn h = record {
-    within = passed-within;
-    low = digit_low (get_or text end 0) h;
-    high = digit-high (get_or text end 0) h;
     fits = omega (arith, here.fits, again.0, label-grows (10 * value + (get_or text end 0 - zero_byte)) (drop (end + 1) text));
     falls = omega (arith, one_less);
     again = again;

@@ -12,13 +12,12 @@ use Rattle.tree.specs.WellFormed.{table_number}
 use Rattle.tree.specs.Operations.{number_from, renumbered}
 use Rattle.newick.specs.Text.{IsText}
 use Rattle.newick.specs.Reading.{tree_read}
-use Rattle.newick.specs.Read.{most_bytes, most_nodes, nodes_of, links_of, tapes_of, refusal, Says, NewickRead}
-use Rattle.newick.specs.declared.Newick.{Newick}
+use Rattle.newick.specs.Read.{most_bytes, most_nodes, nodes_of, links_of, tapes_of, refusal, Says, Answer, NewickRead}
 use Rattle.newick.proofs.Stored.{length-tapes, tape_label}
 use Rattle.newick.proofs.Linked.{length-links, links-accepted, links-tree, links-renumbered}
 use Rattle.newick.proofs.Numbers.{nodes_text, text_accepted, number-says}
 
-module _ (text table tapes : List ℕ) (r : Newick) (table' tapes' : List ℕ) (call : NewickRead text table tapes r table' tapes') where
+module _ (text table tapes : List ℕ) (r : Answer) (table' tapes' : List ℕ) (call : NewickRead text table tapes r table' tapes') where
   -- its number says what it says of the text
   pub says-returned : Says text (length table) (length tapes) r.number
   says-returned = subst⁻¹ (Says text (length table) (length tapes)) call.number (number-says text (length table) (length tapes))

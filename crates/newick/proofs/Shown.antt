@@ -17,26 +17,26 @@ use Rattle.newick.proofs.Digits.{digit-high, decimal-byte, decimal-more}
 -- ---- the text of a reading
 
 -- what stands before a node's label: its list in brackets, where it has one
-abbrev bracketed : Forest → List ℕ → List ℕ
+abbrev pub bracketed : Forest → List ℕ → List ℕ
 bracketed nil list = []
 bracketed (node v below after) list = opening ∷ list ++ closing ∷ []
 
 -- a list's whole subtrees, each with the comma after it
-abbrev ended-each : Forest → List ℕ
+abbrev pub ended-each : Forest → List ℕ
 ended-each nil = []
 ended-each (node v below after) = subtree_text v below (list_text below) ++ comma ∷ ended-each after
 
 -- everything up to the subtree that is due
-abbrev before : List Forest → List ℕ
+abbrev pub before : List Forest → List ℕ
 before [] = []
 before (row ∷ rows) = before rows ++ opening ∷ ended-each row
 
 -- and a node's list
-abbrev up_to-label : List Forest → Forest → List ℕ
+abbrev pub up_to-label : List Forest → Forest → List ℕ
 up_to-label rows below = before rows ++ bracketed below (list_text below)
 
 -- a reading shows the bytes that were read
-abbrev Shows : Reading → List ℕ → Type 0
+abbrev pub Shows : Reading → List ℕ → Type 0
 Shows (due rows) text = (text ≡ before rows) × All Labels rows
 Shows (closed rows below) text = (text ≡ up_to-label rows below) × (All Labels rows × Labels below)
 Shows (label rows below v) text = (text ≡ up_to-label rows below ++ decimal v) × (All Labels rows × Labels (node v below nil))
@@ -170,12 +170,15 @@ reading_shows state past [] s = subst (Shows state) (sym (append-nil past)) s
 reading_shows state past (byte ∷ text) s =
     subst (Shows (reading (next state byte) text)) (append_assoc past (byte ∷ []) text) (reading_shows (next state byte) (past ++ byte ∷ []) text (next_shows state past byte s))
 
+pub text_shows : (text : List ℕ) → Shows (reading (due []) text) text
+text_shows text = reading_shows (due []) [] text (refl, tt)
+
 -- ---- the tree that was read
 
 -- what a text is read to is the tree whose text it is
 pub read_text : (text : List ℕ) → (tree_read text ≡ nil → ⊥) → IsText (tree_read text) text
 unfolding tree_read
-read_text text some = go (reading (due []) text) some (reading_shows (due []) [] text (refl, tt))
+read_text text some = go (reading (due []) text) some (text_shows text)
   where
     go : (state : Reading) → (whole state ≡ nil → ⊥) → Shows state text → IsText (whole state) text
     go (due rows) some s = absurd (some refl)

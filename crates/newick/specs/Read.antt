@@ -1,13 +1,14 @@
 -- Reading Newick text: the conditions 15, 16 and 7, what is accepted, and what the operation promises.
-use Rattle.std.specs.Prelude.{ℕ, ◌*◌, ◌/◌, ◌%◌, ◌≤◌, ◌<◌, ◌≡◌, ◌⊎◌, Bool, ◌||◌, List, [], ◌∷◌, eqb, ltb, length}
+use Rattle.std.specs.Prelude.{ℕ, ◌*◌, ◌/◌, ◌%◌, ◌≤◌, ◌<◌, ◌≡◌, ◌⊎◌, Bool, ◌||◌, List, [], ◌∷◌, eqb, ltb, length, Result, Ok, Err}
 use Rattle.refusal.specs.First.{Condition, ◌⇐◌, first}
 use Rattle.refusal.specs.After.{granted, after}
+use Rattle.refusal.specs.Number.{number}
+use Rattle.refusal.specs.declared.Refusal.{Refusal}
 use Rattle.tree.specs.Numbers.{flat_map}
 use Rattle.tree.specs.Forest.{Forest, size, preorder, table_of}
 use Rattle.tree.specs.Operations.{number_from}
 use Rattle.newick.specs.Text.{IsText}
 use Rattle.newick.specs.Reading.{tree_read}
-use Rattle.newick.specs.declared.Newick.{Newick}
 
 abbrev pub most_bytes : ℕ
 most_bytes = 16384
@@ -60,8 +61,17 @@ pub data Says (text : List ℕ) (tableLength tapesLength : ℕ) : ℕ → Type 0
   taken : IsText (tree_read text) text → length text ≤ most_bytes → size (tree_read text) ≤ most_nodes
       → 2 * size (tree_read text) ≤ tableLength → 2 * size (tree_read text) ≤ tapesLength → Says text tableLength tapesLength 0
 
+-- an answer: 0 with the count of nodes, or the number of a refusal with 0
+pub record Answer : Type 0 where
+  pub number : ℕ
+  pub nodes : ℕ
+
+abbrev pub answer_of : Result ℕ Refusal → Answer
+answer_of (Ok nodes) = record { number = 0; nodes = nodes }
+answer_of (Err refusal) = record { number = number refusal; nodes = 0 }
+
 -- what `read_newick` promises of its answer and of both slices afterwards
-pub record NewickRead (text table tapes : List ℕ) (answer : Newick) (table' tapes' : List ℕ) : Type 0 where
+pub record NewickRead (text table tapes : List ℕ) (answer : Answer) (table' tapes' : List ℕ) : Type 0 where
   pub number : answer.number ≡ refusal text (length table) (length tapes)
   pub nodes : answer.nodes ≡ granted (refusal text (length table) (length tapes)) (nodes_of text) 0
   pub table-after : table' ≡ after (refusal text (length table) (length tapes)) (links_of (tree_read text)) table

@@ -1,5 +1,5 @@
 -- What the inner steps promise.
-use Rattle.std.specs.Prelude.{ℕ, zero, suc, ◌+◌, ◌-◌, ◌*◌, ◌≤◌, ◌<◌, ◌≡◌, false, cond, List, [], ◌∷◌, ◌++◌, eqb, leb, ltb, length, drop}
+use Rattle.std.specs.Prelude.{ℕ, zero, suc, ◌+◌, ◌-◌, ◌*◌, ◌≤◌, ◌<◌, ◌≡◌, false, cond, List, [], ◌∷◌, ◌++◌, eqb, leb, ltb, length, drop, Option, Some, None, option_and_then, MatchOption}
 use Rattle.std.proofs.lemmas.List.Edits.{sets}
 use Rattle.refusal.specs.First.{◌⇐◌, first}
 use Rattle.lines.specs.Decimal.{zero_byte}
@@ -7,42 +7,45 @@ use Rattle.tree.specs.Forest.{Forest, nil, node, size, entry}
 use Rattle.tree.specs.Operations.{number_from}
 use Rattle.newick.specs.Text.{opening, closing, comma, semicolon, most_label, Labels, list_text}
 use Rattle.newick.specs.Reading.{is_digit}
-use Rattle.newick.specs.Read.{most_nodes, room_wrong, tapes_of}
+use Rattle.newick.specs.Read.{most_nodes, room_wrong, nodes_of, tapes_of}
 use Rattle.newick.specs.declared.judge.Scan.{Scan}
-use Rattle.newick.specs.declared.judge.Scan.TheVariants.{Due, Closed, Label, Ended, Broken}
+use Rattle.newick.specs.declared.judge.Scan.TheVariants.{Due, Closed, Label, Ended}
 use Rattle.newick.specs.declared.rows.Reached.{Reached}
 
--- ---- the first pass: reading with counts in place of trees
+-- ---- the first pass: reading with counts in place of trees; None where the text breaks a rule
 
-abbrev pub begun : ℕ → ℕ → ℕ → Scan
-begun depth nodes byte = cond (is_digit byte) (Label depth (nodes + 1) (byte - zero_byte)) Broken
+abbrev pub begun : ℕ → ℕ → ℕ → Option Scan
+begun depth nodes byte = cond (is_digit byte) (Some (Label depth (nodes + 1) (byte - zero_byte))) None
 
-abbrev pub lengthened : ℕ → ℕ → ℕ → ℕ → Scan
+abbrev pub lengthened : ℕ → ℕ → ℕ → ℕ → Option Scan
 lengthened depth nodes value d =
-    cond (eqb value 0) Broken (cond (leb (10 * value + d) most_label) (Label depth nodes (10 * value + d)) Broken)
+    cond (eqb value 0) None (cond (leb (10 * value + d) most_label) (Some (Label depth nodes (10 * value + d))) None)
 
-abbrev pub parted : ℕ → ℕ → ℕ → Scan
-parted zero nodes byte = cond (eqb byte semicolon) (Ended nodes) Broken
-parted (suc depth) nodes byte = cond (eqb byte comma) (Due (suc depth) nodes) (cond (eqb byte closing) (Closed depth nodes) Broken)
+abbrev pub parted : ℕ → ℕ → ℕ → Option Scan
+parted zero nodes byte = cond (eqb byte semicolon) (Some (Ended nodes)) None
+parted (suc depth) nodes byte = cond (eqb byte comma) (Some (Due (suc depth) nodes)) (cond (eqb byte closing) (Some (Closed depth nodes)) None)
 
-unfoldable pub step : Scan → ℕ → Scan
-step (Due depth nodes) byte = cond (eqb byte opening) (Due (depth + 1) nodes) (begun depth nodes byte)
+unfoldable pub step : Scan → ℕ → Option Scan
+step (Due depth nodes) byte = cond (eqb byte opening) (Some (Due (depth + 1) nodes)) (begun depth nodes byte)
 step (Closed depth nodes) byte = begun depth nodes byte
 step (Label depth nodes value) byte = cond (is_digit byte) (lengthened depth nodes value (byte - zero_byte)) (parted depth nodes byte)
-step (Ended nodes) byte = Broken
-step Broken byte = Broken
+step (Ended nodes) byte = None
 
-unfoldable pub steps : Scan → List ℕ → Scan
-steps scan [] = scan
-steps scan (byte ∷ bytes) = steps (step scan byte) bytes
+unfoldable pub steps : Scan → List ℕ → Option Scan
+steps scan [] = Some scan
+steps scan (byte ∷ bytes) = option_and_then (λ next. steps next bytes) (step scan byte)
 
--- the count of nodes of a text that has ended, and else 0
-abbrev pub counted : Scan → ℕ
-counted (Due depth nodes) = 0
-counted (Closed depth nodes) = 0
-counted (Label depth nodes value) = 0
-counted (Ended nodes) = nodes
-counted Broken = 0
+-- the count of nodes of a text that has ended
+abbrev pub counted : Option Scan → Option ℕ
+counted (Some (Due depth nodes)) = None
+counted (Some (Closed depth nodes)) = None
+counted (Some (Label depth nodes value)) = None
+counted (Some (Ended nodes)) = Some nodes
+counted None = None
+
+-- a count of nodes is that of the tree whose text this is; None where it is that of none
+abbrev pub CountIs : List ℕ → Option ℕ → Type 0
+CountIs text count = MatchOption count (nodes_of text ≡ 0) (λ nodes. (nodes_of text ≡ nodes) × (0 < nodes))
 
 -- open brackets and labels together
 abbrev pub counts : Scan → ℕ
@@ -50,7 +53,6 @@ counts (Due depth nodes) = depth + nodes
 counts (Closed depth nodes) = depth + nodes
 counts (Label depth nodes value) = depth + nodes
 counts (Ended nodes) = nodes
-counts Broken = 0
 
 -- the number of a text of n nodes that is not too long
 unfoldable pub tree_number : ℕ → ℕ → ℕ → ℕ

@@ -1,11 +1,7 @@
 // The first pass: a text is judged byte by byte, by a state and the count of open brackets, and its labels are counted.
 ghost use Rattle.std.specs.Prelude.{◌≡◌, ◌≤◌, length};
-ghost use Rattle.newick.specs.Read.{most_bytes, nodes_of};
-ghost use Rattle.newick.specs.Steps.{begun, lengthened, parted, step, counted, counts};
-
-use super::label::is_digit;
-
-const MOST_LABEL: u64 = 4294967295;
+ghost use Rattle.newick.specs.Read.{most_bytes};
+ghost use Rattle.newick.specs.Steps.{begun, lengthened, parted, step, counts, CountIs};
 
 // What the bytes so far leave: how many brackets are open, how many labels have begun, and what may come next.
 #[derive(Clone, Copy)]
@@ -30,122 +26,92 @@ pub enum Scan {
     Ended {
         nodes: usize,
     },
-    // the text breaks a rule
-    Broken,
 }
 
 // A label begins.
-fn begun(depth: usize, nodes: usize, byte: u8) -> Scan
+#[tactic(auto, unfolding(crate::specs::Reading::is_digit))]
+fn begun(depth: usize, nodes: usize, byte: u8) -> Option<Scan>
     requires { nodes ≤ most_bytes }
     ensures { result ≡ begun depth nodes byte }
 {
-    if is_digit(byte) {
-        return Scan::Label {
-            depth,
-            nodes: nodes + 1,
-            value: (byte - b'0') as u32,
-        };
+    if !byte.is_ascii_digit() {
+        return None;
     }
-    Scan::Broken
+    Some(Scan::Label {
+        depth,
+        nodes: nodes + 1,
+        value: u32::from(byte - b'0'),
+    })
 }
 
 // A label has one more digit.
-fn lengthened(depth: usize, nodes: usize, value: u32, digit: u8) -> Scan
+fn lengthened(depth: usize, nodes: usize, value: u32, digit: u8) -> Option<Scan>
     ensures { result ≡ lengthened depth nodes value digit }
 {
     if value == 0 {
-        return Scan::Broken;
+        return None;
     }
-    let longer = 10 * value as u64 + digit as u64;
-    if longer > MOST_LABEL {
-        return Scan::Broken;
-    }
-    Scan::Label {
+    let value = value.checked_mul(10)?.checked_add(u32::from(digit))?;
+    Some(Scan::Label {
         depth,
         nodes,
-        value: longer as u32,
-    }
+        value,
+    })
 }
 
 // A label has ended.
-fn parted(depth: usize, nodes: usize, byte: u8) -> Scan
+fn parted(depth: usize, nodes: usize, byte: u8) -> Option<Scan>
     ensures { result ≡ parted depth nodes byte }
 {
-    if depth == 0 {
-        if byte == b';' {
-            return Scan::Ended { nodes };
-        }
-        return Scan::Broken;
-    }
-    if byte == b',' {
-        return Scan::Due { depth, nodes };
-    }
-    if byte == b')' {
-        return Scan::Closed {
+    match byte {
+        b';' if depth == 0 => Some(Scan::Ended { nodes }),
+        b',' if depth > 0 => Some(Scan::Due { depth, nodes }),
+        b')' if depth > 0 => Some(Scan::Closed {
             depth: depth - 1,
             nodes,
-        };
+        }),
+        _ => None,
     }
-    Scan::Broken
 }
 
-// One byte is read.
-fn step(scan: Scan, byte: u8) -> Scan
+// One byte is read; None: the text breaks a rule.
+#[tactic(auto, unfolding(crate::specs::Steps::step, crate::specs::Reading::is_digit))]
+fn step(scan: Scan, byte: u8) -> Option<Scan>
     requires { counts scan ≤ most_bytes }
     ensures { result ≡ step scan byte }
 {
     match scan {
-        Scan::Due { depth, nodes } => {
-            if byte == b'(' {
-                return Scan::Due {
-                    depth: depth + 1,
-                    nodes,
-                };
-            }
-            begun(depth, nodes, byte)
-        }
-        Scan::Closed { depth, nodes } => begun(depth, nodes, byte),
+        Scan::Due { depth, nodes } if byte == b'(' => Some(Scan::Due {
+            depth: depth + 1,
+            nodes,
+        }),
+        Scan::Due { depth, nodes } | Scan::Closed { depth, nodes } => begun(depth, nodes, byte),
         Scan::Label {
             depth,
             nodes,
             value,
         } => {
-            if is_digit(byte) {
-                return lengthened(depth, nodes, value, byte - b'0');
+            if byte.is_ascii_digit() {
+                lengthened(depth, nodes, value, byte - b'0')
+            } else {
+                parted(depth, nodes, byte)
             }
-            parted(depth, nodes, byte)
         }
-        Scan::Ended { nodes: _ } => Scan::Broken,
-        Scan::Broken => Scan::Broken,
+        Scan::Ended { .. } => None,
     }
 }
 
-fn nodes_of(scan: Scan) -> usize
-    ensures { result ≡ counted scan }
-{
-    match scan {
-        Scan::Ended { nodes } => nodes,
-        Scan::Due { depth: _, nodes: _ } => 0,
-        Scan::Closed { depth: _, nodes: _ } => 0,
-        Scan::Label {
-            depth: _,
-            nodes: _,
-            value: _,
-        } => 0,
-        Scan::Broken => 0,
-    }
-}
-
-// The count of nodes of the tree whose text this is, or 0 where there is none.
-pub fn count_nodes(text: &[u8]) -> usize
+// The count of nodes of the tree whose text this is, where it is that of one.
+pub fn count_nodes(text: &[u8]) -> Option<usize>
     requires { length text.now ≤ most_bytes }
-    ensures { result ≡ nodes_of text.now }
+    ensures { CountIs text.now result }
 {
     let mut scan = Scan::Due { depth: 0, nodes: 0 };
-    let mut at: usize = 0;
-    while at < text.len() {
-        scan = step(scan, text[at]);
-        at += 1;
+    for &byte in text {
+        scan = step(scan, byte)?;
     }
-    nodes_of(scan)
+    match scan {
+        Scan::Ended { nodes } => Some(nodes),
+        _ => None,
+    }
 }

@@ -1,7 +1,6 @@
 // The label that stands at a place of a text, and a pair of entries stored.
 ghost use Rattle.std.specs.Prelude.{◌≡◌, [], ◌∷◌, ◌+◌, ◌*◌, ◌<◌, length, drop};
 ghost use Rattle.std.proofs.lemmas.List.Edits.{sets};
-ghost use Rattle.newick.specs.Reading.{is_digit};
 ghost use Rattle.newick.specs.Read.{words};
 ghost use Rattle.newick.specs.Steps.{leading, label_at, LabelHere};
 
@@ -12,16 +11,6 @@ struct Label {
     end: usize,
 }
 
-#[tactic(auto, unfolding(crate::specs::Reading::is_digit))]
-pub fn is_digit(byte: u8) -> bool
-    ensures { result ≡ is_digit byte }
-{
-    if byte < b'0' {
-        return false;
-    }
-    byte <= b'9'
-}
-
 // The number whose digits stand at a place.
 fn number_at(text: &[u8], at: usize) -> Label
     requires { LabelHere text.now at }
@@ -29,8 +18,8 @@ fn number_at(text: &[u8], at: usize) -> Label
 {
     let mut value: u32 = 0;
     let mut end = at;
-    while is_digit(text[end]) {
-        value = 10 * value + (text[end] - b'0') as u32;
+    while text[end].is_ascii_digit() {
+        value = 10 * value + u32::from(text[end] - b'0');
         end += 1;
     }
     Label { value, end }
@@ -51,8 +40,7 @@ pub fn read_label(text: &[u8], at: usize, node: usize, tapes: &mut [u16]) -> usi
     requires node_in_bounds { 2 * node + 1 < length tapes.old }
     ensures { (result ≡ at + leading (drop at text.now)) × (tapes.new ≡ sets tapes.old (2 * node) (words (label_at text.now at))) }
 {
-    let label = number_at(text, at);
-    let value = label.value;
+    let Label { value, end } = number_at(text, at);
     store_pair(tapes, node, (value % 65536) as u16, (value / 65536) as u16);
-    label.end
+    end
 }
