@@ -20,8 +20,18 @@ use Rattle.rule.proofs.Signed.{nat_abs_add, nat_abs_parts}
 abbrev pub carried_to : List ℤ → ℕ → ℕ → Carried
 carried_to before end p = gather (get before SHIFT) (get before CHANGE) end (end - p)
 
+-- what the pass is given
+pub record Pass (f end : ℕ) (before : List ℤ) : Type 0 where
+  pub low : 0 < f
+  pub some : f < end
+  pub few : end ≤ 1024
+  pub room : 16 * end ≤ length before
+  pub bounded : Bounded f end before
+  pub last : non_neg (get before PLACE (end - 1)) ≡ true
+
 -- positions p to end are done
 pub record Executing (f end : ℕ) (before : List ℤ) (work : List ℤ) (sum rate : ℤ) (p : ℕ) : Type 0 where
+  pub given : Pass f end before
   pub low : f ≤ p
   pub high : p ≤ end
   pub sums : sum ≡ (carried_to before end p).sum
@@ -44,17 +54,10 @@ none-carried before end =
     let none : end - end ≡ 0 = omega arith in
     ap (gather (get before SHIFT) (get before CHANGE) end) none
 
--- what the pass is given
-pub record Pass (f end : ℕ) (before : List ℤ) : Type 0 where
-  pub low : 0 < f
-  pub some : f < end
-  pub few : end ≤ 1024
-  pub room : 16 * end ≤ length before
-  pub bounded : Bounded f end before
-
 pub execute_start : {f end : ℕ} {before : List ℤ} → Pass f end before → Executing f end before before (pos 0) (pos 0) end
 execute_start {f} {end} {before} G =
     record {
+      given = G;
       low = omega (arith, G.some);
       high = omega arith;
       sums = sym (ap (λ g. g.sum) (none-carried before end));
@@ -88,9 +91,13 @@ half-small {end = end} {before = before} G =
 -- ---- a turn at position q
 
 pub record Turn (f end : ℕ) (before work : List ℤ) (sum rate : ℤ) (q : ℕ) : Type 0 where
-  pub given : Pass f end before
   pub done : Executing f end before work sum rate (suc q)
   pub above : f ≤ q
+
+pub turn : {f end : ℕ} {before work : List ℤ} {sum rate : ℤ} {p : ℕ} → Executing f end before work sum rate p → f < p → Turn f end before work sum rate (p - 1)
+turn {f} {end} {before} {work} {sum} {rate} {p} I h =
+    let next : p ≡ suc (p - 1) = omega arith in
+    record { done = subst (Executing f end before work sum rate) next I; above = omega arith }
 
 module _ {f end : ℕ} {before work : List ℤ} {sum rate : ℤ} {q : ℕ} (T : Turn f end before work sum rate q) where
   abbrev I : Executing f end before work sum rate (suc q)
@@ -103,7 +110,7 @@ module _ {f end : ℕ} {before work : List ℤ} {sum rate : ℤ} {q : ℕ} (T : 
   after = put work PLACE q moved
 
   pub inside : 16 * suc q ≤ length work
-  inside = omega (arith, I.high, I.executed.size, T.given.room)
+  inside = omega (arith, I.high, I.executed.size, I.given.room)
 
   pub after-inside : 16 * suc q ≤ length after
   after-inside = omega (arith, inside, put-length work PLACE q moved)
@@ -144,6 +151,7 @@ module _ {f end : ℕ} {before work : List ℤ} {sum rate : ℤ} {q : ℕ} (T : 
   execute_turn w sum' rate' stored d e =
       let carried : carried_to before end q ≡ carry (get before SHIFT q) (get before CHANGE q) (carried_to before end (suc q)) = next-carried before end q I.high in
       record {
+        given = I.given;
         low = T.above;
         high = omega (arith, I.high);
         sums = e ∙ ap₂ (λ (x y : ℤ). (x +ℤ get before SHIFT q) +ℤ (y +ℤ get before CHANGE q)) I.sums I.rates ∙ sym (ap (λ g. g.sum) carried);
@@ -154,10 +162,10 @@ module _ {f end : ℕ} {before work : List ℤ} {sum rate : ℤ} {q : ℕ} (T : 
   -- ---- its numbers stay small
 
   pub sum-small : nat_abs sum ≤ 2094592
-  sum-small = omega (arith, ap nat_abs I.sums, T.given.bounded.moves q T.above I.high)
+  sum-small = omega (arith, ap nat_abs I.sums, I.given.bounded.moves q T.above I.high)
 
   pub place-small : nat_abs (get work PLACE q) ≤ 2094592
-  place-small = omega (arith, ap nat_abs (I.executed.left PLACE q (omega arith) (omega arith)), T.given.bounded.places q T.above I.high)
+  place-small = omega (arith, ap nat_abs (I.executed.left PLACE q (omega arith) (omega arith)), I.given.bounded.places q T.above I.high)
 
   pub rate-next : nat_abs (rate +ℤ get before CHANGE q) ≤ 2142767616
   rate-next =
@@ -165,16 +173,16 @@ module _ {f end : ℕ} {before work : List ℤ} {sum rate : ℤ} {q : ℕ} (T : 
         arith,
         nat_abs_add rate (get before CHANGE q),
         ap nat_abs I.rates,
-        rate-after T.given.bounded (end - suc q) (omega (arith, I.low, I.high)),
-        T.given.bounded.changes q T.above I.high,
+        rate-after I.given.bounded (end - suc q) (omega (arith, I.low, I.high)),
+        I.given.bounded.changes q T.above I.high,
         I.high,
-        T.given.few,
-        T.given.low,
+        I.given.few,
+        I.given.low,
         T.above,
       )
 
-  pub sum-next : nat_abs (sum +ℤ get before SHIFT q) ≤ 4189184
-  sum-next = omega (arith, nat_abs_add sum (get before SHIFT q), sum-small, T.given.bounded.shifts q T.above I.high)
+  pub shift-small : nat_abs (get before SHIFT q) ≤ 2094592
+  shift-small = I.given.bounded.shifts q T.above I.high
 
 -- the middle as the code computes it
 pub half-read : (before : List ℤ) (end : ℕ) → non_neg (get before PLACE (end - 1)) ≡ true → quot_z (get before PLACE (end - 1)) (pos 2) ≡ pos (half before end)

@@ -78,19 +78,25 @@ module _ (work : List ℤ) (s : Stand) (h : Elders) (level : Level work s h.firs
 pub overflow_sub-close : goal.overflow_sub-close
 overflow_sub-close c = (close c.args.work.now c.args.s c.args.elders c.requires.level c.requires.need c.get.result c.get.type_inv c.get.ensures).fits
 
-pub share-requires-clause-i_lt_c : goal.share-requires-clause-i_lt_c
-share-requires-clause-i_lt_c c =
+pub share-requires-clause-order : goal.share-requires-clause-order
+share-requires-clause-order c =
     let h = c.args.elders in
     let l = c.requires.level in
-    let own = owner_range (get c.args.work.now ANCESTOR (c.args.s.child - 1)) h.first h.child h.default l.low l.high in
-    let size = amount c.args.work.now c.args.s h l c.requires.need c.get.result c.get.type_inv c.get.ensures c.if-close-gt0.true in
-    (omega (arith, c.owner-met.ensures, own.1), l.few.1, omega (arith, size, c.requires.modest))
+    omega (arith, c.owner-met.ensures, (owner_range (get c.args.work.now ANCESTOR (c.args.s.child - 1)) h.first h.child h.default l.low l.high).1)
 
-pub share-requires-clause-c_bound : goal.share-requires-clause-c_bound
-share-requires-clause-c_bound c = (c.requires.level.gathered c.args.elders.child (omega (arith, c.requires.level.low, c.requires.level.high)) (omega arith)).0
+pub share-requires-clause-amount : goal.share-requires-clause-amount
+share-requires-clause-amount c =
+    omega (
+      arith,
+      amount c.args.work.now c.args.s c.args.elders c.requires.level c.requires.need c.get.result c.get.type_inv c.get.ensures c.if-close-gt0.true,
+      c.requires.modest,
+    )
 
-pub share-requires-clause-by_index : goal.share-requires-clause-by_index
-share-requires-clause-by_index c =
+pub share-requires-clause-shift : goal.share-requires-clause-shift
+share-requires-clause-shift c = (c.requires.level.gathered c.args.elders.child (omega (arith, c.requires.level.low, c.requires.level.high)) (omega arith)).0
+
+pub share-requires-clause-changes : goal.share-requires-clause-changes
+share-requires-clause-changes c =
     let h = c.args.elders in
     let l = c.requires.level in
     let own = owner_range (get c.args.work.now ANCESTOR (c.args.s.child - 1)) h.first h.child h.default l.low l.high in
