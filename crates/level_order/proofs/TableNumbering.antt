@@ -1,7 +1,8 @@
 -- The numbering of an accepted table: where it starts, one turn of it, and what it leaves. Assumes nothing.
-use mathlib.Core.Path.{◌≡◌, sym, ap, ap₂, ◌∙◌, subst, subst₂}
+use mathlib.Core.Path.{◌≡◌, refl, sym, ap, ap₂, ◌∙◌, subst, subst₂}
 use mathlib.Core.List.{List}
 use Prim.Native.Nat.{ℕ, zero, suc, ◌+◌, ◌-◌, ◌*◌, ◌≤◌, ◌<◌}
+use native.Mathlib.Numerals.{add-one}
 use native.Mathlib.Omega.{arith}
 use lib.Dec.{T}
 use lib.IntN.{ℤ, pos, nat_abs}
@@ -129,52 +130,82 @@ module _ {t : List ℕ} {separation : ℕ} {hs : List ℕ} (G : Accepted t separ
         subst (λ (w : List ℤ). Numbering tree needs (nodes t) start w (suc p) (tail + length row)) (sym second) T₁ in
         subst₂ (λ (q k : ℕ). Numbering tree needs (nodes t) start work₂ q k) suc-p (sym ends) T₂
 
-  -- a turn takes position p, whose node is read as z: the node's children fit, and so do the numbers
-  pub record Taken (work : List ℤ) (p tail reach : ℕ) (z : ℤ) : Type 0 where
+-- ---- what holds before a turn of the loop, which takes position p
+
+pub record Loop (t : List ℕ) (separation : ℕ) (hs : List ℕ) (before work : List ℤ) (p tail reach : ℕ) : Type 0 where
+  pub given : Accepted t separation hs
+  pub room : 16 * nodes t ≤ length before
+  pub numbering : Numbering (tree_of t) (need t separation hs) (nodes t) before work p tail
+  pub reached : reach ≡ reach_of t separation hs p
+
+module _ {t : List ℕ} {separation : ℕ} {hs : List ℕ} (G : Accepted t separation hs) (before : List ℤ) {rooted : List ℤ} (queue : rooted ≡ queued before 0 0 0) where
+  pub loop_start : 16 * nodes t ≤ length before → Loop t separation hs rooted rooted 0 1 separation
+  loop_start room =
+      record {
+        given = G;
+        room = omega (arith, room, ap length queue, queued-length before 0 0 0);
+        numbering = table-start G before rooted queue room;
+        reached = refl;
+      }
+
+  pub loop_end : {work : List ℤ} {p tail reach : ℕ} → 16 * nodes t ≤ length before → Loop t separation hs rooted work p tail reach → nodes t ≤ p
+      → NumberedFrom t separation hs before work
+  loop_end room L over = table-end G before rooted queue room L.numbering over
+
+module _ {t : List ℕ} {separation : ℕ} {hs : List ℕ} {before work : List ℤ} {p tail reach : ℕ} (L : Loop t separation hs before work p tail reach) (more : p < nodes t) where
+  -- the position's node is read as z: the node's children fit, and so do the numbers
+  pub record Taken (z : ℤ) : Type 0 where
     pub few : nodes t ≤ 1024
-    pub long : 16 * nodes t ≤ length work
     pub fits : T (non_neg (stored z)) × Fits w64 (nat_abs (stored z))
-    pub named : nat_abs (stored z) ≡ node_at tree p
+    pub named : nat_abs (stored z) ≡ node_at (tree_of t) p
     pub inside : nat_abs (stored z) < nodes t
     pub children : tail + length (children_of t (nat_abs (stored z))) ≤ nodes t
     pub narrow : half_width hs (nat_abs (stored z)) ≤ 256
     pub high : separation ≤ 1024
     pub short : reach ≤ 1280
 
-  pub taken : (before start work : List ℤ) (p tail reach : ℕ) (z : ℤ) → 16 * nodes t ≤ length before → start ≡ queued before 0 0 0
-      → Numbering tree needs (nodes t) start work p tail → reach ≡ reach_of t separation hs p → p < nodes t → z ≡ get work NODE p
-      → Taken work p tail reach z
-  taken before start work p tail reach z room queue N reached more read =
+  pub taken : {z : ℤ} → z ≡ get work NODE p → Taken z
+  taken {z} read =
       record {
         few = few;
-        long = omega (arith, N.size, long);
-        fits = unsigned-fits z (node_at tree p) node small;
+        fits = unsigned-fits z (node_at (tree_of t) p) node small;
         named = named;
         inside = omega (arith, named, inside);
-        children = omega (arith, ap (λ (v : ℕ). length (children_of t v)) named, table-room N long more);
-        narrow = G.narrow (nat_abs (stored z));
-        high = G.high;
-        short = omega (arith, reached, reaches p);
+        children = omega (arith, ap (λ (v : ℕ). length (children_of t v)) named, table-room L.given L.numbering L.room more);
+        narrow = L.given.narrow (nat_abs (stored z));
+        high = L.given.high;
+        short = omega (arith, L.reached, reaches p);
       }
     where
       few : nodes t ≤ 1024
-      few = (accepted-linked t accepted).few
+      few = (accepted-linked t L.given.accepted).few
 
-      long : 16 * nodes t ≤ length start
-      long = omega (arith, room, ap length queue, queued-length before 0 0 0)
+      inside : node_at (tree_of t) p < nodes t
+      inside = node-inside L.given L.numbering L.room more
 
-      inside : node_at tree p < nodes t
-      inside = node-inside N long more
+      node : z ≡ pos (node_at (tree_of t) p)
+      node = read ∙ table-node L.given L.numbering L.room more
 
-      node : z ≡ pos (node_at tree p)
-      node = read ∙ table-node N long more
-
-      small : node_at tree p < 2147483648
+      small : node_at (tree_of t) p < 2147483648
       small = omega (arith, inside, few)
 
-      named : nat_abs (stored z) ≡ node_at tree p
-      named = unsigned z (node_at tree p) node small
+      named : nat_abs (stored z) ≡ node_at (tree_of t) p
+      named = unsigned z (node_at (tree_of t) p) node small
 
       reaches : (q : ℕ) → reach_of t separation hs q ≤ 1280
-      reaches zero = omega (arith, G.high)
-      reaches (suc q) = omega (arith, G.high, G.narrow (node_at tree q))
+      reaches zero = omega (arith, L.given.high)
+      reaches (suc q) = omega (arith, L.given.high, L.given.narrow (node_at (tree_of t) q))
+
+  -- its children are queued, and it is settled
+  pub loop_next : {z : ℤ} {end : ℕ} {work₁ work₂ : List ℤ} → z ≡ get work NODE p → Appended t p (nat_abs (stored z)) tail work end work₁
+      → work₂ ≡ settled work₁ p tail (end - tail) (reach + half_width hs (nat_abs (stored z)))
+      → Loop t separation hs before work₂ (p + 1) end (separation + half_width hs (nat_abs (stored z)))
+  loop_next read A s =
+      let K = taken read in
+      let here = ap (half_width hs) K.named in
+      record {
+        given = L.given;
+        room = L.room;
+        numbering = table_turn L.given L.numbering L.room more K.named A (omega (arith, L.reached, here)) s;
+        reached = rw add-one (omega (arith, here));
+      }

@@ -5,7 +5,6 @@
 ghost use Rattle.std.specs.Prelude.{◌≡◌, ◌+◌, ◌*◌, ◌≤◌, ◌<◌, length};
 ghost use Rattle.tree.specs.Table.{nodes};
 ghost use Rattle.tree.specs.Levels.{children_of};
-ghost use Rattle.tree.specs.WellFormed.{table_number};
 ghost use Rattle.level_order.specs.Appending.{queued, settled, Appended};
 ghost use Rattle.level_order.specs.Numbered.{NumberedFrom};
 ghost use Rattle.level_order.specs.Spaced.{table_of};
@@ -15,11 +14,13 @@ pub mod spaced_tree;
 
 use field::{Field, get, put};
 use spaced_tree::SpacedTree;
+use tree::Tree;
 
 // Puts node c, a child of position p, at position `tail`.
 fn queue(work: &mut [i32], p: usize, tail: usize, c: usize)
-    requires p_bound { (p < 1024) × (c < 1024) }
-    requires tail_in_bounds { 16 * (tail + 1) ≤ length work.old }
+    requires parent { p < 1024 }
+    requires node { c < 1024 }
+    requires room { 16 * (tail + 1) ≤ length work.old }
     ensures { work.new ≡ queued work.old p tail c }
 {
     put(work, tail, Field::Node, c as i32);
@@ -27,20 +28,19 @@ fn queue(work: &mut [i32], p: usize, tail: usize, c: usize)
 }
 
 // Puts the children of node v, which is at position p, at the positions from `tail` on, and says where the queue ends now.
-fn append(table: &[u16], work: &mut [i32], p: usize, v: usize, tail: usize) -> usize
-    requires table_value { table_number table.now ≡ 0 }
-    requires p_bound { (p < nodes table.now) × (v < nodes table.now) }
-    requires v_bound { tail + length (children_of table.now v) ≤ nodes table.now }
-    requires table_in_bounds { 16 * nodes table.now ≤ length work.old }
-    ensures { Appended table.now p v tail work.old result work.new }
+fn append(tree: Tree<'_>, work: &mut [i32], p: usize, v: usize, tail: usize) -> usize
+    requires position { p < nodes tree.entries.now }
+    requires node { v < nodes tree.entries.now }
+    requires children { tail + length (children_of tree.entries.now v) ≤ nodes tree.entries.now }
+    requires room { 16 * nodes tree.entries.now ≤ length work.old }
+    ensures { Appended tree.entry.entries.now p v tail work.old result work.new }
 {
     let mut end = tail;
-    let mut next = table[2 * v];
-    while next != 65535 {
-        let c = next as usize;
+    let mut next = tree.first_child(v);
+    while let Some(c) = next {
         queue(work, p, end, c);
         end += 1;
-        next = table[2 * c + 1];
+        next = tree.next_sibling(c);
     }
     end
 }
@@ -48,13 +48,15 @@ fn append(table: &[u16], work: &mut [i32], p: usize, v: usize, tail: usize) -> u
 // Writes what is known of position p once its children are queued: they stand from `first` on, `count` of them. It needs `need` from the
 // position before it.
 fn settle(work: &mut [i32], p: usize, first: usize, count: usize, need: u16)
-    requires p_bound { (p < 1024) × (first ≤ 1024) × (count ≤ 1024) }
-    requires p_in_bounds { 16 * (p + 1) ≤ length work.old }
+    requires position { p < 1024 }
+    requires first { first ≤ 1024 }
+    requires count { count ≤ 1024 }
+    requires room { 16 * (p + 1) ≤ length work.old }
     ensures { work.new ≡ settled work.old p first count need }
 {
     put(work, p, Field::First, first as i32);
     put(work, p, Field::Count, count as i32);
-    put(work, p, Field::Need, need as i32);
+    put(work, p, Field::Need, i32::from(need));
     put(work, p, Field::Ancestor, p as i32);
     put(work, p, Field::Shift, 0);
     put(work, p, Field::Change, 0);
@@ -69,7 +71,7 @@ pub fn number(tree: &SpacedTree<'_>, work: &mut [i32])
     queue(work, 0, 0, 0);
     let mut tail = 1;
     let mut reach = tree.separation;
-    for p in 0..tree.table.len() / 2 {
+    for p in 0..tree.table.nodes() {
         let v = get(work, p, Field::Node) as usize;
         let end = append(tree.table, work, p, v, tail);
         let half = tree.widths[v];

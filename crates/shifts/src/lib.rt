@@ -11,6 +11,7 @@ ghost use Rattle.shifts.specs.Shifts.{added, shared, Bounded, Executed};
 use level_order::field::{Field, get, put};
 
 // Adds to a field of position p.
+#[tactic(auto, unfolding(crate::specs::Shifts::added))]
 fn add(work: &mut [i32], p: usize, field: Field, amount: i32)
     requires room { cell p (offset field) < length work.old }
     requires before { nat_abs (Fields.get work.old (offset field) p) ≤ 16777216 }
