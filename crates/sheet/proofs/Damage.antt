@@ -14,7 +14,7 @@ use Rattle.blocks.specs.Below.{total}
 use Rattle.blocks.specs.Block.{block_words, block_bytes, block_count, word_limit, weighted_place, word_at, bytes_of, block_at, word_sum, weighted_sum, sound, EachBelow}
 use Rattle.sheet.specs.Read.{nodes_of, separation_of, length_wrong, check_wrong, refusal, number_read, SheetRead}
 use Rattle.sheet.specs.Damage.{file_word, with_word, swapped, Seen, OldHeader}
-use Rattle.sheet.specs.declared.Sheet.{Sheet}
+use Rattle.sheet.specs.Read.{Answer}
 use Rattle.blocks.proofs.Below.{total_but_one, total-start, some-fails}
 use Rattle.sheet.proofs.Answer.{long-enough}
 use Rattle.blocks.proofs.Words.{word_below, sound-weighted, sound-sum, block-below}
@@ -73,7 +73,7 @@ module _ (file : List ℕ) (b k w : ℕ) where
 
 -- ---- what is seen
 
-module _ (damaged table tapes half_widths : List ℕ) (answer : Sheet) (table' tapes' halfWidths' : List ℕ)
+module _ (damaged table tapes half_widths : List ℕ) (answer : Answer) (table' tapes' halfWidths' : List ℕ)
     (read : SheetRead damaged table tapes half_widths answer table' tapes' halfWidths') where
   seen : number_read damaged table tapes half_widths ≡ 10 → Seen table tapes half_widths answer table' tapes' halfWidths'
   seen ten =
@@ -125,7 +125,7 @@ module _ (file : List ℕ) (b : ℕ) (bytes : EachBelow 256 file) (size : length
         let same = length_with file b k w in
         gives_ten (with_word file b k w) b (rw same size) (rw same there) changed_unsound
 
-    pub change-seen : (table tapes half_widths : List ℕ) (answer : Sheet) (table' tapes' halfWidths' : List ℕ)
+    pub change-seen : (table tapes half_widths : List ℕ) (answer : Answer) (table' tapes' halfWidths' : List ℕ)
         → SheetRead (with_word file b k w) table tapes half_widths answer table' tapes' halfWidths'
         → Seen table tapes half_widths answer table' tapes' halfWidths'
     change-seen table tapes half_widths answer table' tapes' halfWidths' read =
@@ -181,7 +181,7 @@ module _ (file : List ℕ) (b : ℕ) (bytes : EachBelow 256 file) (size : length
         let same = length_with half b (k + 1) left ∙ length_with file b k right in
         gives_ten (swapped file b k) b (rw same size) (rw same there) swapped_unsound
 
-    pub swap_seen : (table tapes half_widths : List ℕ) (answer : Sheet) (table' tapes' halfWidths' : List ℕ)
+    pub swap_seen : (table tapes half_widths : List ℕ) (answer : Answer) (table' tapes' halfWidths' : List ℕ)
         → SheetRead (swapped file b k) table tapes half_widths answer table' tapes' halfWidths'
         → Seen table tapes half_widths answer table' tapes' halfWidths'
     swap_seen table tapes half_widths answer table' tapes' halfWidths' read =

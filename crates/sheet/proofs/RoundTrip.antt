@@ -12,7 +12,7 @@ use Rattle.blocks.specs.Block.{block_bytes, block_count, block_at, sound, in_pla
 use Rattle.sheet.specs.Layout.{most_nodes, most_separation, blocks_for, laid_out}
 use Rattle.sheet.specs.Read.{nodes_of, separation_of, table_of, tapes_of, half_widths_of, some_block_fails, length_wrong, check_wrong, place_wrong, layout_wrong, room_wrong, refusal, SheetRead}
 use Rattle.sheet.specs.File.{content, file_of, Contents, ReadBack}
-use Rattle.sheet.specs.declared.Sheet.{Sheet}
+use Rattle.sheet.specs.Read.{Answer}
 use Rattle.blocks.proofs.Below.{every_holds, joined_cong}
 use Rattle.sheet.proofs.Pairs.{pairs-joined, singles_joined}
 use Rattle.sheet.proofs.Written.{length-file, word_read, check_read, place_read, laid-read, links-read, tape_read, half_width-read}
@@ -95,7 +95,7 @@ module _ (n separation : ℕ) (table tapes half_widths : List ℕ) (held : Conte
     }
 
   -- so the operation, reading the file into slices with room, answers with the contents
-  pub read-written : (old-table old-tapes old-half-widths table' tapes' halfWidths' : List ℕ) (answer : Sheet) → 2 * n ≤ length old-table
+  pub read-written : (old-table old-tapes old-half-widths table' tapes' halfWidths' : List ℕ) (answer : Answer) → 2 * n ≤ length old-table
       → 2 * n ≤ length old-tapes
       → n ≤ length old-half-widths
       → SheetRead file old-table old-tapes old-half-widths answer table' tapes' halfWidths'

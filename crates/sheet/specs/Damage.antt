@@ -4,8 +4,7 @@ use Rattle.std.specs.Prelude.{◌≡◌, ℕ, ◌+◌, ◌*◌, ◌≤◌, ◌<�
 use Rattle.std.proofs.lemmas.List.Edits.{sets}
 use Rattle.blocks.specs.Block.{block_bytes, closing_place, block_at, word_at, bytes_of}
 use Rattle.sheet.specs.Layout.{most_nodes, most_separation, first_word, header_words}
-use Rattle.sheet.specs.Read.{nodes_of, separation_of}
-use Rattle.sheet.specs.declared.Sheet.{Sheet}
+use Rattle.sheet.specs.Read.{nodes_of, separation_of, Answer}
 
 -- word k of block b of a file
 abbrev pub file_word : List ℕ → ℕ → ℕ → ℕ
@@ -20,7 +19,7 @@ abbrev pub swapped : List ℕ → ℕ → ℕ → List ℕ
 swapped file b k = with_word (with_word file b k (file_word file b (k + 1))) b (k + 1) (file_word file b k)
 
 -- what a call gives that sees it: 10, and nothing changed
-pub record Seen (table tapes half_widths : List ℕ) (answer : Sheet) (table' tapes' halfWidths' : List ℕ) : Type 0 where
+pub record Seen (table tapes half_widths : List ℕ) (answer : Answer) (table' tapes' halfWidths' : List ℕ) : Type 0 where
   pub refused : answer ≡ record { number = 10; nodes = 0; separation = 0 }
   pub table_kept : table' ≡ table
   pub tapes-kept : tapes' ≡ tapes

@@ -1,5 +1,7 @@
 -- Reading a sheet: the conditions 9, 10, 11, 12 and 7, what is accepted, and what the operation promises.
-use Rattle.std.specs.Prelude.{ℕ, ◌+◌, ◌*◌, ◌%◌, ◌≡◌, Bool, not, ◌&&◌, ◌||◌, List, [], ◌∷◌, ◌++◌, eqb, ltb, leb, length}
+use Rattle.std.specs.Prelude.{ℕ, ◌+◌, ◌*◌, ◌%◌, ◌≡◌, Bool, not, ◌&&◌, ◌||◌, List, [], ◌∷◌, ◌++◌, Result, Ok, Err, eqb, ltb, leb, length}
+use Rattle.refusal.specs.declared.Refusal.{Refusal}
+use Rattle.refusal.specs.Number.{number}
 use Rattle.refusal.specs.First.{Condition, ◌⇐◌, first}
 use Rattle.refusal.specs.After.{granted, after}
 use Rattle.blocks.specs.Below.{every, joined}
@@ -95,8 +97,18 @@ refusal file tableLength tapesLength halfWidthsLength = first (conditions file t
 abbrev pub number_read : List ℕ → List ℕ → List ℕ → List ℕ → ℕ
 number_read file table tapes half_widths = refusal file (length table) (length tapes) (length half_widths)
 
+-- what a call answers: the number, and n and D, which a refusal gives as 0
+pub record Answer : Type 0 where
+  pub number : ℕ
+  pub nodes : ℕ
+  pub separation : ℕ
+
+abbrev pub answer_of : Result Sheet Refusal → Answer
+answer_of (Ok sheet) = record { number = 0; nodes = sheet.nodes; separation = sheet.separation }
+answer_of (Err refused) = record { number = number refused; nodes = 0; separation = 0 }
+
 -- what `read_sheet` promises of its answer and of the three slices afterwards
-pub record SheetRead (file table tapes half_widths : List ℕ) (answer : Sheet) (table' tapes' halfWidths' : List ℕ) : Type 0 where
+pub record SheetRead (file table tapes half_widths : List ℕ) (answer : Answer) (table' tapes' halfWidths' : List ℕ) : Type 0 where
   pub number : answer.number ≡ number_read file table tapes half_widths
   pub nodes : answer.nodes ≡ granted (number_read file table tapes half_widths) (nodes_of file) 0
   pub separation : answer.separation ≡ granted (number_read file table tapes half_widths) (separation_of file) 0

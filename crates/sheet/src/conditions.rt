@@ -1,15 +1,15 @@
 // The conditions 9, 10, 11, 12 and 7 of the reader.
-ghost use Rattle.std.specs.Prelude.{◌≡◌, ◌*◌, ◌<◌, ◌≤◌, length};
-ghost use Rattle.blocks.specs.Block.{block_bytes};
-ghost use Rattle.sheet.specs.Layout.{blocks_for};
-ghost use Rattle.sheet.specs.Read.{length_wrong, check_wrong, place_wrong, within, fixed_wrong, layout_wrong, room_wrong, refusal};
+ghost use Rattle.std.specs.Prelude.{◌≡◌, ℕ, ◌<◌, ◌≤◌, Bool, List, length};
+ghost use Rattle.std.specs.Borrow.{Bor};
+ghost use Rattle.refusal.specs.Number.{number_of};
+ghost use Rattle.blocks.specs.Block.{block_bytes, block_count, IsBlock};
+ghost use Rattle.sheet.specs.Read.{some_block_fails, length_wrong, within, layout_wrong, room_wrong, refusal};
 
 use super::header::{nodes_of, separation_of};
-use super::layout::{
-    FIRST_BLOCK, MOST_NODES, MOST_SEPARATION, blocks_for, header_laid, rows_laid, rows_of,
-};
+use super::layout::{MOST_NODES, MOST_SEPARATION, blocks_for, is_laid_out};
 use blocks::check::is_sound;
 use blocks::{BLOCK_BYTES, block_at, in_place};
+use refusal::Refusal;
 
 const LEAST_BYTES: usize = 1024;
 
@@ -19,41 +19,18 @@ const MOST_BYTES: usize = 11264;
 fn length_wrong(bytes: usize) -> bool
     ensures { result ≡ length_wrong bytes }
 {
-    if bytes % BLOCK_BYTES != 0 {
-        return true;
-    }
-    if bytes < LEAST_BYTES {
-        return true;
-    }
-    MOST_BYTES < bytes
+    bytes % BLOCK_BYTES != 0 || bytes < LEAST_BYTES || MOST_BYTES < bytes
 }
 
-// Condition 10, over all blocks.
-fn check_wrong(file: &[u8]) -> bool
-    ensures { result ≡ check_wrong file.now }
+// Whether a test fails for a block of the file. It is given the block and its place.
+fn some_block_fails<F: Fn(usize, &[u8]) -> bool>(file: &[u8], test: F) -> bool
+    requires { (place : ℕ) (block : Bor (List ℕ)) → place < block_count file.now → IsBlock file.now place block.now → F.pre test place block }
+    ensures { (t : ℕ → List ℕ → Bool) → ((place : ℕ) (block : Bor (List ℕ)) (r : Bool) → place < block_count file.now → IsBlock file.now place block.now → F.post test place block r → r ≡ t place block.now) → result ≡ some_block_fails t file.now }
 {
-    let count = file.len() / BLOCK_BYTES;
-    let mut place: usize = 0;
-    while place < count {
-        if !is_sound(block_at(file, place)) {
+    for place in 0..file.len() / BLOCK_BYTES {
+        if !test(place, block_at(file, place)) {
             return true;
         }
-        place += 1;
-    }
-    false
-}
-
-// Condition 11, over all blocks.
-fn place_wrong(file: &[u8]) -> bool
-    ensures { result ≡ place_wrong file.now }
-{
-    let count = file.len() / BLOCK_BYTES;
-    let mut place: usize = 0;
-    while place < count {
-        if !in_place(block_at(file, place), place) {
-            return true;
-        }
-        place += 1;
     }
     false
 }
@@ -62,32 +39,7 @@ fn place_wrong(file: &[u8]) -> bool
 fn is_within(greatest: usize, number: usize) -> bool
     ensures { result ≡ within greatest number }
 {
-    if number < 1 {
-        return false;
-    }
-    number <= greatest
-}
-
-// Whether a word that the layout fixes differs, in any block. The count of nodes that are left is stepped from block to block.
-fn fixed_wrong(file: &[u8], nodes: usize) -> bool
-    requires { length file.now ≡ block_bytes * blocks_for nodes }
-    ensures { result ≡ fixed_wrong nodes file.now }
-{
-    if !header_laid(block_at(file, 0)) {
-        return true;
-    }
-    let count = file.len() / BLOCK_BYTES;
-    let mut left = nodes;
-    let mut place = FIRST_BLOCK;
-    while place < count {
-        let rows = rows_of(left);
-        if !rows_laid(block_at(file, place), rows) {
-            return true;
-        }
-        left -= rows;
-        place += 1;
-    }
-    false
+    (1..=greatest).contains(&number)
 }
 
 // Condition 12.
@@ -95,18 +47,12 @@ fn layout_wrong(file: &[u8]) -> bool
     requires { block_bytes ≤ length file.now }
     ensures { result ≡ layout_wrong file.now }
 {
-    let nodes = nodes_of(file) as usize;
-    let separation = separation_of(file) as usize;
-    if !is_within(MOST_NODES, nodes) {
-        return true;
-    }
-    if !is_within(MOST_SEPARATION, separation) {
-        return true;
-    }
-    if file.len() != BLOCK_BYTES * blocks_for(nodes) {
-        return true;
-    }
-    fixed_wrong(file, nodes)
+    let nodes = usize::from(nodes_of(file));
+    let separation = usize::from(separation_of(file));
+    !is_within(MOST_NODES, nodes)
+        || !is_within(MOST_SEPARATION, separation)
+        || file.len() != BLOCK_BYTES * blocks_for(nodes)
+        || some_block_fails(file, |place, block| is_laid_out(nodes, place, block))
 }
 
 // Condition 7; `table`, `tapes` and `widths` are the slices' lengths.
@@ -114,33 +60,27 @@ fn room_wrong(nodes: usize, table: usize, tapes: usize, widths: usize) -> bool
     requires { nodes < 65536 }
     ensures { result ≡ room_wrong nodes table tapes widths }
 {
-    if table < 2 * nodes {
-        return true;
-    }
-    if tapes < 2 * nodes {
-        return true;
-    }
-    widths < nodes
+    table < 2 * nodes || tapes < 2 * nodes || widths < nodes
 }
 
-// The number of the first condition that holds, or 0; `table`, `tapes` and `widths` are the slices' lengths.
-pub fn refusal_of(file: &[u8], table: usize, tapes: usize, widths: usize) -> u16
-    ensures { result ≡ refusal file.now table tapes widths }
+// The first condition that holds, if one does; `table`, `tapes` and `widths` are the slices' lengths.
+pub fn check_file(file: &[u8], table: usize, tapes: usize, widths: usize) -> Result<(), Refusal>
+    ensures { number_of result ≡ refusal file.now table tapes widths }
 {
     if length_wrong(file.len()) {
-        return 9;
+        return Err(Refusal::FileLength);
     }
-    if check_wrong(file) {
-        return 10;
+    if some_block_fails(file, |_place, block| is_sound(block)) {
+        return Err(Refusal::BlockCheck);
     }
-    if place_wrong(file) {
-        return 11;
+    if some_block_fails(file, |place, block| in_place(block, place)) {
+        return Err(Refusal::BlockPlace);
     }
     if layout_wrong(file) {
-        return 12;
+        return Err(Refusal::SheetLayout);
     }
-    if room_wrong(nodes_of(file) as usize, table, tapes, widths) {
-        return 7;
+    if room_wrong(usize::from(nodes_of(file)), table, tapes, widths) {
+        return Err(Refusal::OutputRoom);
     }
-    0
+    Ok(())
 }

@@ -1,7 +1,7 @@
 // The layout of a sheet of n nodes: its blocks, their rows, and the words that are fixed.
 ghost use Rattle.std.specs.Prelude.{◌≡◌, ◌+◌, ◌<◌, ◌≤◌, min, length};
 ghost use Rattle.blocks.specs.Block.{block_bytes, weighted_place};
-ghost use Rattle.sheet.specs.Layout.{first_word, header_mark, header_words, block_rows, row_word, blocks_for, fixed_hold};
+ghost use Rattle.sheet.specs.Layout.{first_word, header_mark, header_words, block_rows, row_word, blocks_for, fixed_hold, laid_out};
 
 use blocks::{WEIGHTED_PLACE, word};
 
@@ -35,7 +35,7 @@ pub fn blocks_for(nodes: usize) -> usize
 pub fn rows_of(left: usize) -> usize
     ensures { result ≡ min block_rows left }
 {
-    if left < BLOCK_ROWS { left } else { BLOCK_ROWS }
+    left.min(BLOCK_ROWS)
 }
 
 // Whether word 1 is `count` and the words from `used` to the check words are 0.
@@ -44,15 +44,13 @@ fn fixed_hold(block: &[u8], count: usize, used: usize) -> bool
     requires lt_used { (1 < used) × (used ≤ weighted_place) }
     ensures { result ≡ fixed_hold count used block.now }
 {
-    if word(block, 1) as usize != count {
+    if usize::from(word(block, 1)) != count {
         return false;
     }
-    let mut place = used;
-    while place < WEIGHTED_PLACE {
+    for place in used..WEIGHTED_PLACE {
         if word(block, place) != 0 {
             return false;
         }
-        place += 1;
     }
     true
 }
@@ -71,4 +69,20 @@ pub fn rows_laid(block: &[u8], rows: usize) -> bool
     ensures { result ≡ fixed_hold rows (row_word rows) block.now }
 {
     fixed_hold(block, rows, FIRST_WORD + ROW_WORDS * rows)
+}
+
+// Whether block `place` of a sheet of so many nodes has every word that the layout fixes.
+pub fn is_laid_out(nodes: usize, place: usize, block: &[u8]) -> bool
+    requires block_len { length block.now ≡ block_bytes }
+    requires place_bound { place < 65536 }
+    ensures { result ≡ laid_out nodes place block.now }
+{
+    if place == 0 {
+        header_laid(block)
+    } else {
+        rows_laid(
+            block,
+            rows_of(nodes.saturating_sub(BLOCK_ROWS * (place - 1))),
+        )
+    }
 }

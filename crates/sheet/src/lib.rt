@@ -2,7 +2,7 @@
 // slice, a tape slice and a half-width slice.
 #![tactic(auto)]
 
-ghost use Rattle.sheet.specs.Read.{SheetRead};
+ghost use Rattle.sheet.specs.Read.{answer_of, SheetRead};
 
 mod conditions;
 mod header;
@@ -10,14 +10,14 @@ pub mod layout;
 mod rows;
 pub mod walk;
 
-use conditions::refusal_of;
+use conditions::check_file;
 use header::{nodes_of, separation_of};
+use refusal::Refusal;
 use rows::read_rows;
 
-// What reading a sheet gives: 0 with n and D, or the number of a refusal with 0 and 0.
+// What a sheet has besides its slices: n and D.
 #[derive(Clone, Copy)]
 pub struct Sheet {
-    pub number: u16,
     pub nodes: u16,
     pub separation: u16,
 }
@@ -25,23 +25,17 @@ pub struct Sheet {
 // Reads a sheet. Where it is accepted, each node's first child and next sibling stand in `table`, its tape number, low word and
 // high word, in `tapes`, and its half-width in `widths`; entries past 2n, and past n in `widths`, are untouched. A refusal changes
 // no slice. The tree and the half-widths are not judged.
-pub fn read_sheet(file: &[u8], table: &mut [u16], tapes: &mut [u16], widths: &mut [u16]) -> Sheet
-    ensures { SheetRead file.now table.old tapes.old widths.old result table.new tapes.new widths.new }
+pub fn read_sheet(
+    file: &[u8],
+    table: &mut [u16],
+    tapes: &mut [u16],
+    widths: &mut [u16],
+) -> Result<Sheet, Refusal>
+    ensures { SheetRead file.now table.old tapes.old widths.old (answer_of result) table.new tapes.new widths.new }
 {
-    let number = refusal_of(file, table.len(), tapes.len(), widths.len());
-    if number != 0 {
-        return Sheet {
-            number,
-            nodes: 0,
-            separation: 0,
-        };
-    }
+    check_file(file, table.len(), tapes.len(), widths.len())?;
     let nodes = nodes_of(file);
     let separation = separation_of(file);
-    read_rows(file, nodes as usize, table, tapes, widths);
-    Sheet {
-        number: 0,
-        nodes,
-        separation,
-    }
+    read_rows(file, usize::from(nodes), table, tapes, widths);
+    Ok(Sheet { nodes, separation })
 }

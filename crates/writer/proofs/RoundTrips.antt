@@ -15,7 +15,7 @@ use Rattle.blocks.specs.Block.{block_bytes, EachBelow}
 use Rattle.sheet.specs.Layout.{blocks_for}
 use Rattle.sheet.specs.Read.{nodes_of, separation_of, table_of, tapes_of, half_widths_of, number_read, SheetRead}
 use Rattle.sheet.specs.File.{file_of, Contents}
-use Rattle.sheet.specs.declared.Sheet.{Sheet}
+use Rattle.sheet.specs.Read.{Answer}
 use Rattle.sheet.proofs.Answer.{Accepted, accepted}
 use Rattle.sheet.proofs.Rewritten.{read-and-written}
 use Rattle.sheet.proofs.RoundTrip.{read-written}
@@ -79,7 +79,7 @@ module _ (table : List ℕ) (D : ℕ) (tapes half_widths out : List ℕ) (a : Wr
       }
 
   -- reading it, into slices with room, gives the sheet back
-  pub written_then_read : (old-table old-tapes old-half-widths table' tapes' halfWidths' : List ℕ) (r : Sheet) → 2 * nodes table ≤ length old-table
+  pub written_then_read : (old-table old-tapes old-half-widths table' tapes' halfWidths' : List ℕ) (r : Answer) → 2 * nodes table ≤ length old-table
       → 2 * nodes table ≤ length old-tapes
       → nodes table ≤ length old-half-widths
       → SheetRead (take a.bytes out') old-table old-tapes old-half-widths r table' tapes' halfWidths'
@@ -122,7 +122,7 @@ module _ (table : List ℕ) (D : ℕ) (tapes other-tapes half_widths other-half-
 
 -- ---- what an accepted call of the reader gave, written
 
-module _ (bytes old-table old-tapes old-half-widths : List ℕ) (r : Sheet) (table' tapes' halfWidths' : List ℕ) (fits : EachBelow 256 bytes)
+module _ (bytes old-table old-tapes old-half-widths : List ℕ) (r : Answer) (table' tapes' halfWidths' : List ℕ) (fits : EachBelow 256 bytes)
     (read : SheetRead bytes old-table old-tapes old-half-widths r table' tapes' halfWidths') (zero_number : r.number ≡ 0) where
   number_read_lem : number_read bytes old-table old-tapes old-half-widths ≡ 0
   number_read_lem = sym read.number ∙ zero_number
