@@ -80,9 +80,7 @@ pub fn is_laid_out(nodes: usize, place: usize, block: &[u8]) -> bool
     if place == 0 {
         header_laid(block)
     } else {
-        rows_laid(
-            block,
-            rows_of(nodes.saturating_sub(BLOCK_ROWS * (place - 1))),
-        )
+        let left = nodes.saturating_sub(BLOCK_ROWS * (place - 1));
+        rows_laid(block, rows_of(left))
     }
 }
