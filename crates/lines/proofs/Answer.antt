@@ -1,36 +1,38 @@
 -- From a text that is stored at the buffer's start to what an operation promises, and what a test that held says. Assumes nothing.
-use mathlib.Core.Path.{◌≡◌, refl, sym, ap, ◌∙◌, subst}
+use mathlib.Core.Path.{◌≡◌, refl, sym, ap, ap₂, ◌∙◌, subst}
 use Prim.Native.Nat.{ℕ, ◌*◌, ◌≤◌}
-use native.Mathlib.Nat.{zero-add}
 use native.Mathlib.Omega.{arith}
 use mathlib.Core.Bool.{Bool, true, false}
 use mathlib.Core.List.{List}
 use lib.Dec.{leb}
 use lib.ListN.{length}
-use lib.Seq.{length-take-le}
+use lib.Seq.{sets, length-take-le}
 use borrow.Author.Tests.{leb-true}
 use Rattle.refusal.specs.After.{overwrite}
 use Rattle.refusal.proofs.After.{length-overwrite, sets_start}
 use Rattle.refusal.proofs.Truth.{and_left, and_right}
 use Rattle.lines.specs.Printed.{most_nodes, listing_room, printable, when, Printed}
-use Rattle.lines.specs.Steps.{Put}
+use Rattle.lines.specs.Written.{Written}
+use Rattle.lines.specs.declared.buffer.Text.{Text}
 
 -- where the test fails there is no text
 pub not-printed : {test : Bool} {old : List ℕ} (text : List ℕ) → test ≡ false → Printed (when test text) old 0 old
 unfolding overwrite
 not-printed {old = old} text fails = subst (λ (b : Bool). Printed (when b text) old 0 old) (sym fails) (record { bytes = refl; buffer = refl; counts = (omega arith, refl) })
 
--- where it holds, the text that is stored
-pub printed : {test : Bool} {text old new : List ℕ} {answer : ℕ} → test ≡ true → length text ≤ length old → Put 0 text old answer new
+-- where it holds, the text that is written to an empty one
+pub printed : {test : Bool} {room answer : ℕ} {text old new : List ℕ} {start end : Text} → test ≡ true → room ≤ length old
+    → start.out.now ≡ old → start.end ≡ 0 → Written room text start end → answer ≡ end.end → new ≡ end.out.now
     → Printed (when test text) old answer new
-printed {text = text} {old = old} {new = new} {answer = answer} holds room put =
-    let buffer : new ≡ overwrite text old = put.buffer ∙ sets_start text old room in
-    let inside : answer ≤ length new = omega (arith, ap length buffer, length-overwrite text old room) in
-    subst (λ (b : Bool). Printed (when b text) old answer new) (sym holds) (record {
-      bytes = put.place ∙ zero-add (length text);
-      buffer = buffer;
-      counts = (inside, sym (length-take-le answer new inside));
-    })
+printed {answer = answer} {text = text} {old = old} {new = new} {start = start} holds enough is_old empty written is_end is_new =
+    let size : length text ≤ length old = omega arith in
+    let stored : new ≡ overwrite text old =
+    is_new ∙ written.put.put.buffer ∙ ap₂ (λ (l : List ℕ) (at : ℕ). sets l at text) is_old empty ∙ sets_start text old size
+    in
+    let count : answer ≡ length text = omega arith in
+    let inside : answer ≤ length new = omega (arith, ap length stored, length-overwrite text old size) in
+    subst (λ (b : Bool). Printed (when b text) old answer new) (sym holds)
+    (record { bytes = count; buffer = stored; counts = (inside, sym (length-take-le answer new inside)) })
 
 -- what is known where a listing is written
 pub record Able (n levels places tapes bytes : ℕ) : Type 0 where

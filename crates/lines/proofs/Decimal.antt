@@ -1,18 +1,15 @@
 -- The equations of the decimal digits, and how many there are. Assumes nothing.
 use mathlib.Core.Path.{◌≡◌, refl, sym, ap, ◌∙◌}
-use Prim.Native.Nat.{ℕ, zero, suc, ◌+◌, ◌-◌, ◌*◌, ◌/◌, ◌%◌, ◌≤◌, ◌<◌}
+use Prim.Native.Nat.{ℕ, zero, suc, ◌+◌, ◌/◌, ◌%◌, ◌≤◌, ◌<◌}
 use native.Mathlib.Nat.{lt_of_not-le, le_refl}
 use native.Mathlib.Numerals.{add-one}
 use native.Mathlib.Decide.{dec_le}
 use native.Mathlib.Omega.{arith}
 use mathlib.Core.List.{List, [], ◌∷◌, ◌++◌}
-use lib.ListN.{length, set, length-append}
-use lib.Seq.{sets}
+use lib.ListN.{length, length-append}
 use borrow.Author.Tests.{lt-ltb, le-ltb}
 use Rattle.lines.specs.Decimal.{digit, decimal_within, decimal}
 use Rattle.lines.specs.Steps.{digits}
-use Rattle.refusal.proofs.After.{sets_append}
-use Rattle.lines.proofs.Put.{sets_late}
 
 -- one order or the other
 pub split {ℓ} : {X : Type ℓ} (a b : ℕ) → (a ≤ b → X) → (b < a → X) → X
@@ -68,23 +65,6 @@ size_small n h = ap length (decimal-small n h)
 pub size-large : (n : ℕ) → 10 ≤ n → length (decimal n) ≡ length (decimal (n / 10)) + 1
 size-large n h = ap length (decimal-large n h) ∙ length-append (decimal (n / 10)) (digit (n % 10) ∷ [])
 
--- a power of ten
-abbrev pub tens : ℕ → ℕ
-tens zero = 1
-tens (suc k) = tens k * 10
-
--- from a power of ten up to the next
-pub size-between : (k n : ℕ) → tens k ≤ n → n < tens (suc k) → length (decimal n) ≡ suc k
-size-between zero n low high = size_small n (omega arith)
-size-between (suc k) n low high =
-    let fewer : length (decimal (n / 10)) ≡ suc k = size-between k (n / 10) (omega arith) (omega arith) in
-    let some : 1 ≤ tens k = tens-some k in
-    omega (arith, size-large n (omega arith))
-  where
-    tens-some : (j : ℕ) → 1 ≤ tens j
-    tens-some zero = omega arith
-    tens-some (suc j) = omega (arith, tens-some j)
-
 -- ---- the last digits
 
 pub length_digits : (count n : ℕ) → length (digits count n) ≡ count
@@ -109,26 +89,3 @@ digits-all = by-tens (λ n. digits (length (decimal n)) n ≡ decimal n) small l
         ap (λ (k : ℕ). digits k n) (size-large n h ∙ add-one (length (decimal (n / 10))))
         ∙ ap (λ (l : List ℕ). l ++ digit (n % 10) ∷ []) before
         ∙ sym (decimal-large n h)
-
--- the last digit may be stored first
-digits_late : (old : List ℕ) (at count n : ℕ) → sets (set old (at + count) (digit (n % 10))) at (digits count (n / 10)) ≡ sets old at (digits (suc count) n)
-unfolding digits
-digits_late old at count n =
-    let higher = digits count (n / 10) in
-    let size : length higher ≡ count = length_digits count (n / 10) in
-    sets_late old at (at + count) (digit (n % 10)) higher (omega arith)
-    ∙ ap (λ (k : ℕ). set (sets old at higher) (at + k) (digit (n % 10))) (sym size)
-    ∙ sets_append old at higher (digit (n % 10) ∷ [])
-
-pub digits_more : (old : List ℕ) (at place n : ℕ) → at < place
-    → sets (set old (place - 1) (digit (n % 10))) at (digits (place - 1 - at) (n / 10)) ≡ sets old at (digits (place - at) n)
-digits_more old at place n left =
-    let here : place - 1 ≡ at + (place - 1 - at) = omega arith in
-    let count : suc (place - 1 - at) ≡ place - at = omega arith in
-    ap (λ (k : ℕ). sets (set old k (digit (n % 10))) at (digits (place - 1 - at) (n / 10))) here
-    ∙ digits_late old at (place - 1 - at) n
-    ∙ ap (λ (k : ℕ). sets old at (digits k n)) count
-
-pub digits-none : (old : List ℕ) (at k n : ℕ) → k ≡ 0 → sets old at (digits k n) ≡ old
-unfolding digits
-digits-none old at k n none = rw none

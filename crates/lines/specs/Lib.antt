@@ -4,3 +4,4 @@ pub mod Decimal
 pub mod Listing
 pub mod Printed
 pub mod Steps
+pub mod Written

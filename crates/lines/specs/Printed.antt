@@ -1,5 +1,5 @@
 -- What the two operations promise: which text they write, and what the buffer holds afterwards.
-use Rattle.std.specs.Prelude.{ℕ, ◌+◌, ◌*◌, ◌≤◌, ◌≡◌, Bool, cond, ◌&&◌, List, [], leb, ℤ, length, take}
+use Rattle.std.specs.Prelude.{ℕ, ◌+◌, ◌*◌, ◌≤◌, ◌≡◌, Bool, cond, Option, None, Some, ◌&&◌, List, [], leb, ℤ, length, take}
 use Rattle.refusal.specs.After.{overwrite}
 use Rattle.lines.specs.Listing.{listing, refused_line}
 
@@ -29,6 +29,11 @@ printable n levels places tapes bytes =
 -- a text where a test holds, and else no bytes
 abbrev pub when : Bool → List ℕ → List ℕ
 when test text = cond test text []
+
+-- the bytes that an operation wrote, 0 where it gave none
+abbrev pub bytes_written : Option ℕ → ℕ
+bytes_written None = 0
+bytes_written (Some bytes) = bytes
 
 -- n counts bytes at the start of a buffer. The second part follows from the first; a caller that hands those bytes on needs both.
 abbrev pub Counts : ℕ → List ℕ → Type 0

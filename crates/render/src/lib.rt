@@ -1,8 +1,8 @@
 // From the bytes of a sheet file to the text that is printed for it.
 #![tactic(auto)]
 
-ghost use Rattle.std.specs.Prelude.{◌≤◌, length};
-ghost use Rattle.lines.specs.Printed.{Printed};
+ghost use Rattle.std.specs.Prelude.{◌≤◌, ◌↔◌, length, IsSome};
+ghost use Rattle.lines.specs.Printed.{bytes_written, Printed};
 ghost use Rattle.render.specs.Text.{text_room, table_text, SheetListed};
 
 const TEXT_ROOM: usize = 41024;
@@ -14,12 +14,13 @@ fn list_table(
     tapes: &[u16],
     widths: &[u16],
     out: &mut [u8],
-) -> usize
+) -> Option<usize>
     requires le_separation { 1 ≤ separation }
     requires separation_bound { separation ≤ 1024 }
     requires table_in_bounds { length table.now ≤ length tapes.now }
     requires text_room_in_bounds { text_room ≤ length out.old }
-    ensures { Printed (table_text separation table.now tapes.now widths.now) out.old result out.new }
+    ensures written { IsSome result }
+    ensures printed { Printed (table_text separation table.now tapes.now widths.now) out.old (bytes_written result) out.new }
 {
     let mut places = [0i32; 1024];
     let mut levels = [0u16; 1024];
@@ -52,12 +53,13 @@ fn list_table(
 }
 
 // Writes what is printed for a file to the start of `out` and gives the number of its bytes: the listing of its sheet, or the line of a
-// refusal. Where `out` has fewer than 41,024 bytes, nothing is written and the answer is 0.
-pub fn list_sheet(file: &[u8], out: &mut [u8]) -> usize
-    ensures { SheetListed file.now out.old result out.new }
+// refusal. Where `out` has fewer than 41,024 bytes, nothing is written.
+pub fn list_sheet(file: &[u8], out: &mut [u8]) -> Option<usize>
+    ensures written { IsSome result ↔ (text_room ≤ length out.old) }
+    ensures printed { SheetListed file.now out.old (bytes_written result) out.new }
 {
     if out.len() < TEXT_ROOM {
-        return 0;
+        return None;
     }
     let mut table = [0u16; 2048];
     let mut tapes = [0u16; 2048];

@@ -1,29 +1,15 @@
--- `listing::write_nodes` writes the lines of all nodes. The invariant: those of the nodes before `node` are stored, each within its room.
--- Assumes nothing.
-use mathlib.Core.Path.{◌≡◌, refl, ◌∙◌}
+-- `listing::write_nodes` writes the lines of all nodes. Assumes nothing.
+use Rattle.std.proofs.Common.{refl, arith}
+use Rattle.std.proofs.lemmas.Int.{to_z-of_z}
 use mir.Syntax.{w32}
-use mir.ValLaws.{to_z-of_z}
-use Rattle.lines.proofs.Listed.{node-more, none-put}
-use native.Mathlib.Omega.{arith}
+use Rattle.lines.proofs.Listed.{none_written, node_more}
 use Rattle.lines.proofs.listing.write_nodes.Goals as goal
 
 pub loop-node-init : goal.loop-node-init
-loop-node-init c = (omega arith, omega arith, refl, none-put _ _ _ _ _)
+loop-node-init c = none_written c.args.text.now c.args.levels.now c.args.places.now c.args.tapes.now
 
 pub loop-node-preserved : goal.loop-node-preserved
 loop-node-preserved c =
-    let a = c.args in (
-      omega arith,
-      omega arith,
-      c.write_node-end.auto.out ∙ c.loop-node.invariant.2,
-      node-more c.loop-node.node a.levels.now a.places.now a.tapes.now c.loop-node.invariant.3 refl
-          (to_z-of_z w32 _ (record { sfits = omega arith })) c.tape_number-tape.ensures c.write_node-end.ensures.put,
-    )
-
-pub shape_of-out : goal.shape_of-out
-shape_of-out c = c.loop-node.invariant.2
-
-pub returns : goal.returns
-returns c =
-    let all : c.loop-node.node ≡ c.args.nodes = omega arith in
-    record { put = rw (← all) c.loop-node.invariant.3; within = omega arith }
+    let a = c.args in
+    node_more c.loop-node.node a.levels.now a.places.now a.tapes.now c.loop-node.invariant refl
+    (to_z-of_z w32 _ (record { sfits = omega arith })) c.tape_number.ensures c.write_node.ensures
