@@ -2,6 +2,8 @@
 // its last parameters. `hiwenoka_list_sheet` alone has no number: it writes what is printed, and returns the number of bytes.
 #![tactic(auto)]
 
+ghost use Rattle.std.specs.Prelude.{◌≡◌};
+ghost use Rattle.refusal.specs.Number.{number_of, given};
 ghost use Rattle.tree.specs.Operations.{CheckTable, Mirror, Renumber};
 ghost use Rattle.sheet.specs.Read.{SheetRead};
 ghost use Rattle.newick.specs.Read.{NewickRead};
@@ -14,13 +16,26 @@ ghost use Rattle.small_trees.specs.SmallTrees.{SmallTree};
 ghost use Rattle.trees_of_dots.specs.TreesOfDots.{TreesOfDotsValues};
 ghost use Rattle.treetex.specs.TreeTeX.{TreeTeX};
 
+use refusal::Refusal;
+
+// The number of an answer, and what it has: what was given, and else what a refusal gives.
+fn told<T: Copy>(answer: Result<T, Refusal>, refused: T) -> (u16, T)
+    ensures number { result.0 ≡ number_of answer }
+    ensures given { result.1 ≡ given refused answer }
+{
+    match answer {
+        Ok(given) => (0, given),
+        Err(refusal) => (refusal.number(), refused),
+    }
+}
+
 #[unsafe(no_mangle)]
 pub extern "C" fn hiwenoka_check_table(table: &[u16], nodes: &mut u16) -> u16
     ensures { CheckTable table.now result nodes.new }
 {
-    let checked = tree::check_table(table);
-    *nodes = checked.nodes;
-    checked.number
+    let (number, count) = told(tree::check_table(table), 0);
+    *nodes = count;
+    number
 }
 
 #[unsafe(no_mangle)]
@@ -86,14 +101,14 @@ pub extern "C" fn hiwenoka_layout_treetex(
 pub extern "C" fn hiwenoka_mirror(table: &[u16], out: &mut [u16]) -> u16
     ensures { Mirror table.now out.old result out.new }
 {
-    tree::mirror(table, out)
+    told(tree::mirror(table, out), ()).0
 }
 
 #[unsafe(no_mangle)]
 pub extern "C" fn hiwenoka_renumber(table: &[u16], out: &mut [u16], map: &mut [u16]) -> u16
     ensures { Renumber table.now out.old map.old result out.new map.new }
 {
-    tree::renumber(table, out, map)
+    told(tree::renumber(table, out, map), ()).0
 }
 
 #[unsafe(no_mangle)]
@@ -147,7 +162,7 @@ pub extern "C" fn hiwenoka_write_sheet(
 pub extern "C" fn hiwenoka_list_sheet(file: &[u8], out: &mut [u8]) -> usize
     ensures { SheetListed file.now out.old result out.new }
 {
-    render::list_sheet(file, out)
+    render::list_sheet(file, out).unwrap_or(0)
 }
 
 #[unsafe(no_mangle)]
@@ -164,9 +179,8 @@ pub extern "C" fn hiwenoka_on_screen(
     ensures { OnScreenValues (record { across = across; down = down; zoom = zoom }) level place (record { number = result; on = on.new; across = x.new; down = y.new }) }
 {
     let view = screen::View { across, down, zoom };
-    let judged = screen::on_screen(view, level, place);
-    let seen = judged.seen;
-    let values = screen::values_of(judged.number, seen);
+    let (number, seen) = told(screen::on_screen(view, level, place), None);
+    let values = screen::values_of(number, seen);
     *on = values.on;
     *x = values.across;
     *y = values.down;
@@ -177,7 +191,7 @@ pub extern "C" fn hiwenoka_on_screen(
 pub extern "C" fn hiwenoka_small_tree(nodes: u16, place: u16, table: &mut [u16]) -> u16
     ensures { SmallTree nodes place table.old result table.new }
 {
-    small_trees::small_tree(nodes, place, table)
+    told(small_trees::small_tree(nodes, place, table), ()).0
 }
 
 #[unsafe(no_mangle)]

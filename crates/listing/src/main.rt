@@ -24,8 +24,8 @@ fn main(rt: HostRuntime) -> io::Result<()> {
     // One byte more than the longest file, so that a longer input is seen to be longer.
     let mut file = [0u8; 11265];
     let length = read_full(&mut rt.stdin(), &mut file);
-    let mut text = [0u8; 41024];
-    let end = render::list_sheet(&file[..length], &mut text);
+    let mut text = [0u8; render::TEXT_ROOM];
+    let end = render::list_sheet(&file[..length], &mut text).unwrap();
     if rt.write_all(&text[..end]).is_err() {
         let _ = eprintln!(rt; "listing: the output could not be written");
     }

@@ -26,8 +26,8 @@ pub with_room : {text old new : List ℕ} {answer : ℕ} → text_room ≤ lengt
     → Printed (when (leb text_room (length old)) text) old answer new
 with_room {text} {old} {new} {answer} room p = subst (λ (b : Bool). Printed (when b text) old answer new) (sym (le-leb text_room (length old) room)) p
 
-module _ (file table tapes widths table' tapes' widths' : List ℕ) (r : Sheet) (table-long : 2048 ≤ length table) (tapes-long : 2048 ≤ length tapes)
-    (widths-long : 1024 ≤ length widths) (S : SheetRead file table tapes widths r table' tapes' widths') where
+module _ {file table tapes widths table' tapes' widths' : List ℕ} {r : Sheet} (S : SheetRead file table tapes widths r table' tapes' widths')
+    (table-long : 2048 ≤ length table) (tapes-long : 2048 ≤ length tapes) (widths-long : 1024 ≤ length widths) where
   reads : number_read file table tapes widths ≡ file_number file
   reads = file-decides file (length table) (length tapes) (length widths) table-long tapes-long widths-long
 

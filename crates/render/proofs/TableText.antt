@@ -45,7 +45,7 @@ pub record Ample (s : Slices) : Type 0 where
   pub measured : 2048 ≤ length s.the_record
   pub work : 16384 ≤ length s.work
 
-module _ (t : List ℕ) (D : ℕ) (some : 1 ≤ D) (small : D ≤ 1024) (tapes hs : List ℕ) (s u : Slices) (a : Answer) (L : Layout t D hs s a u) (ample : Ample s) where
+module _ (t : List ℕ) (D : ℕ) (hs : List ℕ) {s u : Slices} {a : Answer} (L : Layout t D hs s a u) (some : 1 ≤ D) (small : D ≤ 1024) (ample : Ample s) where
   abbrev places : List ℤ
   places = places_of (plain (needed D hs)) t
 
@@ -56,10 +56,10 @@ module _ (t : List ℕ) (D : ℕ) (some : 1 ≤ D) (small : D ≤ 1024) (tapes h
   number_decided = L.number ∙ decides
 
   -- a refusal
-  pub refused-listed : {old new : List ℕ} {k : ℕ} → text_room ≤ length old → (a.number ≡ 0 → ⊥) → RefusalPrinted a.number old k new
+  pub refused-listed : (tapes : List ℕ) {old new : List ℕ} {k : ℕ} → text_room ≤ length old → (a.number ≡ 0 → ⊥) → RefusalPrinted a.number old k new
       → Printed (table_text D t tapes hs) old k new
   unfolding table_text
-  refused-listed room h p =
+  refused-listed tapes room h p =
       refusal-shown a.number room (ap refused_line number_decided ∙ sym (text_refused (drawing_number t hs) (drawn_listing D t tapes hs) (λ e. h (number_decided ∙ e)))) p
 
   -- an acceptance
@@ -92,9 +92,9 @@ module _ (t : List ℕ) (D : ℕ) (some : 1 ≤ D) (small : D ≤ 1024) (tapes h
         ap (λ (l : List ℤ). take a.nodes l) (L.places ∙ after-accepted _ (places) s.places accepted)
         ∙ take-overwrite a.nodes (places) s.places (length-places (plain (needed D hs)) t ∙ sym nodes-given)
 
-    same-listing : listing a.nodes a.levels D a.least a.greatest (take a.nodes u.levels) (take a.nodes u.places) tapes ≡ table_text D t tapes hs
+    same-listing : (tapes : List ℕ) → listing a.nodes a.levels D a.least a.greatest (take a.nodes u.levels) (take a.nodes u.places) tapes ≡ table_text D t tapes hs
     unfolding table_text drawn_listing
-    same-listing =
+    same-listing tapes =
         rw (
           levels-listed,
           places-listed,
@@ -106,9 +106,9 @@ module _ (t : List ℕ) (D : ℕ) (some : 1 ≤ D) (small : D ≤ 1024) (tapes h
         (sym (text_granted (drawing_number t hs) (drawn_listing D t tapes hs) (sym number_decided ∙ e)))
 
     -- the writer's test holds
-    can_print : {bytes : ℕ} → text_room ≤ bytes → length t ≤ length tapes
+    pub can_print : (tapes : List ℕ) {bytes : ℕ} → text_room ≤ bytes → length t ≤ length tapes
         → printable a.nodes (length (take a.nodes u.levels)) (length (take a.nodes u.places)) (length tapes) bytes ≡ true
-    can_print {bytes} room tapes-enough =
+    can_print tapes {bytes} room tapes-enough =
         let n = a.nodes in
         let levels-enough : n ≤ length (take n u.levels) = omega (arith, nodes-given, ap length levels-listed, length-levels t) in
         let places-enough : n ≤ length (take n u.places) = omega (arith, nodes-given, ap length places-listed, length-places (plain (needed D hs)) t) in
@@ -127,11 +127,11 @@ module _ (t : List ℕ) (D : ℕ) (some : 1 ≤ D) (small : D ≤ 1024) (tapes h
         to_z-of_z w32 a.greatest
         (record { sfits = subst (λ (x : ℤ). mag x < 2 ^ 31) (sym (given (greatest_of (places)) (pos 0) L.greatest)) (greatest-fits T) })
 
-    pub accepted-listed : {old new : List ℕ} {k : ℕ} → text_room ≤ length old → length t ≤ length tapes
+    pub accepted-listed : (tapes : List ℕ) {old new : List ℕ} {k : ℕ} → text_room ≤ length old → length t ≤ length tapes
         → ListingPrinted a.nodes a.levels D (to_z w32 (of_z w32 a.least)) (to_z w32 (of_z w32 a.greatest)) (take a.nodes u.levels)
         (take a.nodes u.places) tapes old k new
         → Printed (table_text D t tapes hs) old k new
-    accepted-listed room tapes-enough p =
-        shown (can_print room tapes-enough)
+    accepted-listed tapes room tapes-enough p =
+        shown (can_print tapes room tapes-enough)
         (ap₂ (λ (x y : ℤ). listing a.nodes a.levels D x y (take a.nodes u.levels) (take a.nodes u.places) tapes) least_kept greatest-kept
-        ∙ same-listing) p
+        ∙ same-listing tapes) p

@@ -5,7 +5,7 @@ ghost use Rattle.std.specs.Prelude.{◌≤◌, ◌↔◌, length, IsSome};
 ghost use Rattle.lines.specs.Printed.{bytes_written, Printed};
 ghost use Rattle.render.specs.Text.{text_room, table_text, SheetListed};
 
-const TEXT_ROOM: usize = 41024;
+pub const TEXT_ROOM: usize = 41024;
 
 // Lays a table out and writes its listing, or the line of its refusal.
 fn list_table(
