@@ -1,5 +1,5 @@
 // A text that is written to a buffer piece by piece.
-ghost use Rattle.std.specs.Prelude.{◌≡◌, ◌+◌, ◌≤◌, length};
+ghost use Rattle.std.specs.Prelude.{◌≡◌, ◌+◌, ◌<◌, ◌≤◌, [], ◌∷◌, length};
 ghost use Rattle.lines.specs.Listing.{ended};
 ghost use Rattle.lines.specs.Steps.{Room};
 
@@ -41,6 +41,15 @@ impl<'a> Text<'a> {
         self.end = end;
     }
 
+    // Writes one byte behind the text so far.
+    fn push(&mut self, byte: u8)
+        requires { self.old.end < length self.old.out.now }
+        ensures { Written 1 (byte ∷ []) self.old self.new }
+    {
+        self.out[self.end] = byte;
+        self.end += 1;
+    }
+
     // Writes a number in decimal and the byte after it.
     pub fn write_number<I: Integer>(&mut self, number: I, after: u8)
         requires { self.old.end + I.MAX_STR_LEN + 1 ≤ length self.old.out.now }
@@ -48,6 +57,6 @@ impl<'a> Text<'a> {
     {
         let mut digits = Buffer::new();
         self.write(digits.format(number).as_bytes());
-        self.write(&[after]);
+        self.push(after);
     }
 }
