@@ -137,9 +137,9 @@ pub extern "C" fn hiwenoka_read_newick(
 ) -> u16
     ensures { NewickRead text.now table.old tapes.old (record { number = result; nodes = nodes.new }) table.new tapes.new }
 {
-    let tree = newick::read_newick(text, table, tapes);
-    *nodes = tree.nodes;
-    tree.number
+    let (number, tree_nodes) = told(newick::read_newick(text, table, tapes), 0);
+    *nodes = tree_nodes;
+    number
 }
 
 #[unsafe(no_mangle)]
