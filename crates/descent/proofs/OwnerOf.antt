@@ -1,32 +1,15 @@
 -- Whose is a node: its ancestor where that is a child joined so far, and the default where the ancestor is out of date. Assumes nothing.
-use mathlib.Core.Path.{◌≡◌, refl, ap, ap₂, ◌∙◌, subst}
+use mathlib.Core.Path.{◌≡◌, refl, ap, ap₂, ◌∙◌}
 use mathlib.Core.Logic.{⊎_elim}
 use mathlib.Core.Bool.{Bool, true, false, cond}
 use Prim.Native.Nat.{ℕ, ◌+◌, ◌≤◌, ◌<◌}
 use native.Mathlib.Omega.{arith}
-use lib.Dec.{T, ltb}
+use lib.Dec.{ltb}
 use borrow.Author.Tests.{lt-ltb, le-ltb, ltb-true, ltb-false}
-use lib.IntN.{ℤ, pos, negsuc, nat_abs}
-use lib.Signed.{non_neg, mag, lt_z}
-use mir.Syntax.{w64}
-use mir.Val.{Fits}
+use lib.IntN.{ℤ, pos, negsuc}
 use Rattle.tree.proofs.Counting.{below_or_not}
 use Rattle.contours.specs.Rows.{Outside}
 use Rattle.descent.specs.Descent.{owner_of}
-
--- an ancestor below 0
-pub owner-below : (z : ℤ) (f c default : ℕ) → lt_z z (pos 0) ≡ true → owner_of z f c default ≡ default
-owner-below (pos k) f c default e = absurd (omega (arith, ltb-true k 0 e))
-owner-below (negsuc k) f c default e = refl
-
--- an ancestor that is not
-pub not-below : (z : ℤ) → lt_z z (pos 0) ≡ false → z ≡ pos (nat_abs z)
-not-below (pos n) e = refl
-not-below (negsuc n) e = absurd (subst T e tt)
-
-pub not-below-fits : (z : ℤ) → lt_z z (pos 0) ≡ false → mag z < 2147483648 → T (non_neg z) × Fits w64 (nat_abs z)
-not-below-fits (pos n) e h = (tt, record { fits = omega arith })
-not-below-fits (negsuc n) e h = absurd (subst T e tt)
 
 -- ---- its three cases
 

@@ -38,33 +38,6 @@ pub record Executing (f end : ℕ) (before : List ℤ) (work : List ℤ) (sum ra
   pub rates : rate ≡ (carried_to before end p).rate
   pub executed : Executed p end before work
 
-nothing-done : (end : ℕ) (before : List ℤ) → Executed end end before before
-nothing-done end before =
-    record {
-      place = λ p g h. absurd (omega arith);
-      field = λ k p h d. refl;
-      left = λ k p h g. refl;
-      right = λ k p h g. refl;
-      size = refl;
-      rest = λ n h. refl;
-    }
-
-none-carried : (before : List ℤ) (end : ℕ) → carried_to before end end ≡ record { sum = pos 0; rate = pos 0 }
-none-carried before end =
-    let none : end - end ≡ 0 = omega arith in
-    ap (gather (get before SHIFT) (get before CHANGE) end) none
-
-pub execute_start : {f end : ℕ} {before : List ℤ} → Pass f end before → Executing f end before before (pos 0) (pos 0) end
-execute_start {f} {end} {before} G =
-    record {
-      given = G;
-      low = omega (arith, G.some);
-      high = omega arith;
-      sums = sym (ap (λ g. g.sum) (none-carried before end));
-      rates = sym (ap (λ g. g.rate) (none-carried before end));
-      executed = nothing-done end before;
-    }
-
 -- one position further
 next-carried : (before : List ℤ) (end q : ℕ) → suc q ≤ end
     → carried_to before end q ≡ carry (get before SHIFT q) (get before CHANGE q) (carried_to before end (suc q))
@@ -109,11 +82,8 @@ module _ {f end : ℕ} {before work : List ℤ} {sum rate : ℤ} {q : ℕ} (T : 
   abbrev pub after : List ℤ
   after = put work PLACE q moved
 
-  pub inside : 16 * suc q ≤ length work
+  inside : 16 * suc q ≤ length work
   inside = omega (arith, I.high, I.executed.size, I.given.room)
-
-  pub after-inside : 16 * suc q ≤ length after
-  after-inside = omega (arith, inside, put-length work PLACE q moved)
 
   other : (k j : ℕ) → k < 16 → (j ≡ q → ⊥) → get after k j ≡ get work k j
   other k j h d = put-position work PLACE q moved (omega arith) k j h d
