@@ -2,15 +2,18 @@
 use mathlib.Core.Path.{◌≡◌, refl, sym, ap, ap₂, ◌∙◌}
 use mathlib.Core.Bool.{true, false}
 use mathlib.Core.List.{List}
-use Prim.Native.Nat.{ℕ, ◌-◌, ◌<◌}
+use Prim.Native.Nat.{ℕ, ◌-◌, ◌≤◌, ◌<◌}
 use native.Mathlib.Omega.{arith}
 use borrow.Author.Tests.{ne_eqb}
 use lib.IntN.{ℤ, pos, nat_abs, ◌+ℤ◌, ◌-ℤ◌}
-use lib.Signed.{lt_z, mag}
+use lib.Dec.{T}
+use lib.Signed.{lt_z, non_neg, mag}
+use mir.Syntax.{w64}
+use mir.Val.{Fits}
 use Rattle.std.specs.Int.{int_max}
 use Rattle.rule.proofs.Signed.{nat_abs_add, nat_abs_sub}
 use Rattle.level_order.specs.Fields.{get, put, NEED, ANCESTOR}
-use Rattle.level_order.proofs.Signed32.{stored, Held, told, held, plus, minus, signed}
+use Rattle.level_order.proofs.Signed32.{stored, Held, told, held, plus, minus, signed, unsigned-fits}
 use Rattle.descent.specs.declared.Stand.{Stand}
 use Rattle.descent.specs.declared.Elders.{Elders}
 use Rattle.shifts.specs.Shifts.{shared}
@@ -65,6 +68,9 @@ module _ (work : List ℤ) (s : Stand) (h : Elders) (level : Level work s h.firs
     above : (gap ≡ pos (too_close work s)) × (0 < too_close work s)
     above = is-above gap (ap (lt_z (pos 0)) (sym close.read) ∙ some)
 
+    castable : too_close work s ≤ 4194304 → T (non_neg (stored difference)) × Fits w64 (nat_abs (stored difference))
+    castable h = unsigned-fits difference (too_close work s) (ap₂ ◌-ℤ◌ least.read place.read ∙ above.0) (omega arith)
+
     amount : nat_abs (stored difference) ≡ too_close work s
     amount = ap nat_abs (close.read ∙ above.0)
 
@@ -77,6 +83,11 @@ module _ (work : List ℤ) (s : Stand) (h : Elders) (level : Level work s h.firs
 
 pub overflow_sub-close : goal.overflow_sub-close
 overflow_sub-close c = (close c.args.work.now c.args.s c.args.elders c.requires.level c.requires.need c.get.result c.get.type_inv c.get.ensures).fits
+
+pub overflow_cast-close : goal.overflow_cast-close
+overflow_cast-close c =
+    castable c.args.work.now c.args.s c.args.elders c.requires.level c.requires.need c.get.result c.get.type_inv c.get.ensures c.if-close-gt0.true
+    c.requires.modest
 
 pub share-requires-clause-order : goal.share-requires-clause-order
 share-requires-clause-order c =
