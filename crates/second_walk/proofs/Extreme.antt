@@ -6,8 +6,9 @@ use Prim.Native.Nat.{ℕ, ◌+◌, ◌^◌, ◌≤◌, ◌<◌}
 use native.Mathlib.Nat.{le_refl}
 use native.Mathlib.Omega.{arith}
 use borrow.Author.Count.{below_more}
-use lib.IntN.{ℤ, pos}
+use lib.IntN.{ℤ, pos, negsuc}
 use lib.Signed.{le_z, mag}
+use Rattle.std.specs.Int.{int_min, int_max}
 use Rattle.rule.specs.Join.{Spacing}
 use Rattle.tree.specs.Table.{nodes}
 use Rattle.tree.specs.WellFormed.{table_number}
@@ -18,6 +19,19 @@ use Rattle.rule.proofs.Extremes.{root-place, least-bounds, greatest-bounds, leas
 use Rattle.level_order.proofs.Order.{node-below, root-first}
 use Rattle.level_order.proofs.Signed32.{mag_size}
 use Rattle.second_walk.proofs.Positions.{place_at, number_at, each_number}
+
+-- the library's lesser and greater of two numbers are the rule's
+min-lesser : (x y : ℤ) → int_min x y ≡ lesser x y
+min-lesser (pos a) (pos b) = grind arith
+min-lesser (pos a) (negsuc b) = refl
+min-lesser (negsuc a) (pos b) = refl
+min-lesser (negsuc a) (negsuc b) = grind arith
+
+max-greater : (x y : ℤ) → int_max x y ≡ greater x y
+max-greater (pos a) (pos b) = grind arith
+max-greater (pos a) (negsuc b) = refl
+max-greater (negsuc a) (pos b) = refl
+max-greater (negsuc a) (negsuc b) = grind arith
 
 abbrev pub AtLeast : ℤ → ℤ → Type 0
 AtLeast x y = AtMost y x
@@ -48,8 +62,8 @@ module _ {Before : ℤ → ℤ → Type 0} {D : Spacing} {t : List ℕ} (accepte
 
 module _ {D : Spacing} {t : List ℕ} (accepted : table_number t ≡ 0) {p : ℕ} {z : ℤ} where
   -- of the extreme so far and the next place, the one that goes before the other
-  pub least-next : {z' : ℤ} → Extreme AtMost D t p z → p < nodes t → z' ≡ lesser z (place_at D t p) → Extreme AtMost D t (p + 1) z'
-  least-next E h e = rw e (go (le_z z (place_at D t p)) refl)
+  pub least-next : {z' : ℤ} → Extreme AtMost D t p z → p < nodes t → z' ≡ int_min z (place_at D t p) → Extreme AtMost D t (p + 1) z'
+  least-next E h e = rw (e, min-lesser z (place_at D t p)) (go (le_z z (place_at D t p)) refl)
     where
       go : (b : Bool) → le_z z (place_at D t p) ≡ b → Extreme AtMost D t (p + 1) (cond b z (place_at D t p))
       go true k = record { met = E.met; bounds = below_more (λ q. AtMost z (place_at D t q)) p E.bounds (le_z_true z (place_at D t p) k) }
@@ -59,8 +73,8 @@ module _ {D : Spacing} {t : List ℕ} (accepted : table_number t ≡ 0) {p : ℕ
             bounds = below_more (λ q. AtMost (place_at D t p) (place_at D t q)) p (λ q j. omega (arith, E.bounds q j, le_z_false z (place_at D t p) k)) (omega arith);
           }
 
-  pub greatest-next : {z' : ℤ} → Extreme AtLeast D t p z → p < nodes t → z' ≡ greater z (place_at D t p) → Extreme AtLeast D t (p + 1) z'
-  greatest-next E h e = rw e (go (le_z z (place_at D t p)) refl)
+  pub greatest-next : {z' : ℤ} → Extreme AtLeast D t p z → p < nodes t → z' ≡ int_max z (place_at D t p) → Extreme AtLeast D t (p + 1) z'
+  greatest-next E h e = rw (e, max-greater z (place_at D t p)) (go (le_z z (place_at D t p)) refl)
     where
       go : (b : Bool) → le_z z (place_at D t p) ≡ b → Extreme AtLeast D t (p + 1) (cond b (place_at D t p) z)
       go true k =

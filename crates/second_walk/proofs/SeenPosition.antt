@@ -8,7 +8,7 @@ use lib.IntN.{ℤ, nat_abs}
 use lib.Signed.{non_neg}
 use mir.Syntax.{w16, w32}
 use mir.Val.{Fits, to_z, of_z}
-use Rattle.level_order.specs.Fields.{get, NODE, LEVEL}
+use Rattle.level_order.specs.Fields.{get, LEVEL}
 use Rattle.level_order.proofs.Signed32.{unsigned, castable}
 use Rattle.second_walk.specs.SecondWalk.{Seen}
 
@@ -21,12 +21,6 @@ module _ {work : List ℤ} {p v l : ℕ} (S : Seen work p v l) where
     same-level = ap nat_abs (sym S.level ∙ R.level)
 
   module _ {z : ℤ} where
-    pub node-number : z ≡ get work NODE p → nat_abs (to_z w32 (of_z w32 z)) ≡ v
-    node-number e = unsigned z v (e ∙ S.node) (omega arith)
-
-    pub node-fits : z ≡ get work NODE p → T (non_neg (to_z w32 (of_z w32 z))) × Fits w16 (nat_abs (to_z w32 (of_z w32 z)))
-    node-fits e = castable z v (e ∙ S.node) (omega arith) w16 (record { fits = omega arith })
-
     pub level-number : z ≡ get work LEVEL p → nat_abs (to_z w32 (of_z w32 z)) ≡ l
     level-number e = unsigned z l (e ∙ S.level) (omega arith)
 

@@ -6,6 +6,7 @@ use native.Mathlib.Numerals.{add-one}
 use native.Mathlib.Omega.{arith}
 use lib.IntN.{ℤ, pos}
 use lib.ListN.{length, set}
+use Rattle.std.specs.Int.{int_min, int_max}
 use Rattle.rule.specs.Join.{Spacing}
 use Rattle.tree.specs.Table.{nodes}
 use Rattle.tree.specs.Levels
@@ -13,7 +14,7 @@ use Rattle.tree.specs.WellFormed.{table_number}
 use Rattle.tree.proofs.LevelOf.{root-level}
 use Rattle.tree.proofs.Stands.{accepted-numbers}
 use Rattle.rule.specs.Result
-use Rattle.rule.specs.Result.{places_of, levels_of, lesser, greater}
+use Rattle.rule.specs.Result.{places_of, levels_of}
 use Rattle.rule.proofs.Signed.{AtMost}
 use Rattle.rule.proofs.Extremes.{root-place}
 use Rattle.level_order.specs.Fields.{get, put, PARENT, PLACE, LEVEL}
@@ -89,7 +90,7 @@ module _ {t : List ℕ} {D : Spacing} {rs₀ : List ℕ} {ws₀ ps : List ℤ} {
         }
 
     pub settle-next : {ps' : List ℤ} {ls' rs' : List ℕ} {z low' high' : ℤ} {pairs' : ℕ} → Written ws' p ps ls ps' ls'
-        → z ≡ get ws' PLACE p → low' ≡ lesser low z → high' ≡ greater high z
+        → z ≡ get ws' PLACE p → low' ≡ int_min low z → high' ≡ int_max high z
         → Paired ws' (p - 1) p rs pairs pairs' rs' → length rs' ≡ length rs → Settling t D rs₀ ws₀ ps' ls' rs' ws' low' high' pairs' (p + 1)
     settle-next W read least greatest P size =
         record {
@@ -97,8 +98,8 @@ module _ {t : List ℕ} {D : Spacing} {rs₀ : List ℕ} {ws₀ ps : List ℤ} {
           work = next;
           places = by-number-next accepted S.places h (W.places _ _ seen_here) here;
           levels = by-number-next accepted S.levels h (W.levels _ _ seen_here) refl;
-          least = least-next accepted S.least h (least ∙ ap (lesser low) (read ∙ here));
-          greatest = greatest-next accepted S.greatest h (greatest ∙ ap (greater high) (read ∙ here));
+          least = least-next accepted S.least h (least ∙ ap (int_min low) (read ∙ here));
+          greatest = greatest-next accepted S.greatest h (greatest ∙ ap (int_max high) (read ∙ here));
           measured = recorded-next accepted S.measured S.some h (P.count _ _ _ _ seen-before seen_here) (P.written _ _ _ _ seen-before seen_here) size;
         }
       where

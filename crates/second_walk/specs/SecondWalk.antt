@@ -2,16 +2,22 @@
 use Rattle.std.specs.Prelude.{ℕ, suc, ◌+◌, ◌*◌, ◌^◌, ◌≤◌, ◌<◌, ◌≡◌, cond, List, eqb, ℤ, pos, ◌+ℤ◌, length, set, drop}
 use Rattle.std.specs.Int.Signed.{mag}
 use Rattle.refusal.specs.After.{overwrite}
+use Rattle.distance.specs.Needed.{needed}
 use Rattle.tree.specs.Table.{nodes}
 use Rattle.tree.specs.Forest.{tree_of}
 use Rattle.tree.specs.Levels
 use Rattle.tree.specs.Levels.{neighbours}
-use Rattle.rule.specs.Join.{Spacing}
+use Rattle.rule.specs.Join.{Spacing, spaced}
 use Rattle.rule.specs.Record.{flat}
 use Rattle.rule.specs.Result
 use Rattle.rule.specs.Result.{places_of, levels_of, least_of, greatest_of}
 use Rattle.level_order.specs.LevelOrder.{node_at}
 use Rattle.level_order.specs.Fields.{get, put, NODE, PARENT, PLACE, LEVEL}
+use Rattle.level_order.specs.declared.spaced_tree.SpacedTree.{SpacedTree}
+
+-- what keeps the nodes of a spaced tree apart
+abbrev pub spacing_of : SpacedTree → Spacing
+spacing_of s = spaced (needed s.separation s.widths.now) s.extra
 
 -- ---- before the pass
 
