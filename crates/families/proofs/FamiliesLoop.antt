@@ -1,8 +1,8 @@
 -- The families from position p on are drawn: at the start, from one family to the one before it, and at the end. Assumes nothing.
-use mathlib.Core.Path.{◌≡◌, refl, ◌∙◌}
+use mathlib.Core.Path.{◌≡◌, refl, ◌∙◌, subst}
 use mathlib.Core.Logic.{inl, inr, ⊎_elim}
 use mathlib.Core.List.{List}
-use Prim.Native.Nat.{ℕ, suc, ◌*◌, ◌≤◌, ◌<◌}
+use Prim.Native.Nat.{ℕ, suc, ◌-◌, ◌*◌, ◌≤◌, ◌<◌}
 use native.Mathlib.Nat.{le_refl, le_trans}
 use native.Mathlib.Omega.{arith}
 use lib.IntN.{ℤ, pos}
@@ -12,12 +12,20 @@ use Rattle.tree.specs.Table.{nodes}
 use Rattle.tree.specs.Forest.{tree_of}
 use Rattle.tree.proofs.Counting.{below_or_not, from_more}
 use Rattle.level_order.specs.LevelOrder.{first_at}
-use Rattle.level_order.specs.Fields.{get, put, PLACE, LEFT, RIGHT, ANCESTOR, SHIFT, CHANGE}
+use Rattle.level_order.specs.Fields.{cell, get, put, FIRST, COUNT, PLACE, LEFT, RIGHT, ANCESTOR, SHIFT, CHANGE}
+use Rattle.level_order.specs.Spaced.{table_of, apart_of}
+use Rattle.level_order.specs.declared.spaced_tree.SpacedTree.{SpacedTree}
 use Rattle.level_order.specs.Numbered.{Numbered, Fresh}
 use Rattle.level_order.proofs.Fielded.{numbered-kept}
 use Rattle.contours.specs.Rows.{Subtree}
+use Rattle.descent.specs.Descent.{Reads, first_of_children, past_children}
+use Rattle.families.specs.Joining.{spacing_of, Given}
 use Rattle.families.specs.Families.{Ready, FamilyPlaced, FamilyDrawn, FamiliesFrom}
+use Rattle.tree.proofs.Stands.{accepted-numbers}
+use Rattle.level_order.proofs.InOrder.{ordered}
 use Rattle.level_order.proofs.Positions.{Ordered, mono-le, within}
+use Rattle.families.proofs.Children.{first_reads, count-reads, first-value, past_value}
+use Rattle.families.proofs.Joining.{given_of}
 use Rattle.level_order.proofs.Occurs.{times-apart}
 use Rattle.contours.proofs.Kept.{subtree-kept, subtree-leaf}
 use Rattle.contours.proofs.OffsetsAll.{offsets_all}
@@ -173,3 +181,54 @@ module _ (t : List ℕ) (D : Spacing) (O : Ordered (first_at (tree_of t)) (nodes
           size = put-length work PLACE 0 (pos 0) ∙ S.size;
           rest = put_rest work PLACE 0 (pos 0) (omega arith) n some ∙ S.rest;
         }
+
+-- ---- a turn of the loop, which draws the family of the position before p
+
+module _ (s : SpacedTree) where
+  abbrev G : Given (table_of s) (spacing_of s)
+  G = given_of s
+
+  abbrev in_order : Ordered (first_at (tree_of (table_of s))) (nodes (table_of s))
+  in_order = ordered (table_of s) G.accepted
+
+  pub loop-start : {before : List ℤ} → Numbered (tree_of (table_of s)) (apart_of s) (nodes (table_of s)) before → Fresh (nodes (table_of s)) before
+      → DrawnFrom (table_of s) (spacing_of s) (nodes (table_of s)) before before
+  loop-start = families_start (table_of s) (spacing_of s) in_order
+
+  pub loop-end : {p : ℕ} {before work after : List ℤ} → DrawnFrom (table_of s) (spacing_of s) p before work → p ≤ 0 → after ≡ put work PLACE 0 (pos 0)
+      → FamiliesFrom (table_of s) (spacing_of s) before after
+  loop-end {p} {before} {work} S done e =
+      let none : p ≡ 0 = omega arith in
+      rw e (families_end (table_of s) (spacing_of s) in_order (accepted-numbers (table_of s) G.accepted).some (rw none at S))
+
+  pub root-inside : {p : ℕ} {before work : List ℤ} → DrawnFrom (table_of s) (spacing_of s) p before work → cell 0 PLACE < length work
+  root-inside S = omega (arith, S.numbered.size, (accepted-numbers (table_of s) G.accepted).some)
+
+  module _ {p : ℕ} {before work : List ℤ} (S : DrawnFrom (table_of s) (spacing_of s) p before work) (some : 0 < p) where
+    from-next : DrawnFrom (table_of s) (spacing_of s) (suc (p - 1)) before work
+    from-next =
+        let e : p ≡ suc (p - 1) = omega arith in
+        subst (λ (k : ℕ). DrawnFrom (table_of s) (spacing_of s) k before work) e S
+
+    pub first-read : Reads work FIRST (p - 1)
+    first-read = first_reads (table_of s) G.accepted S.numbered (p - 1) from-next.inside
+
+    pub count-read : Reads work COUNT (p - 1)
+    count-read = count-reads (table_of s) G.accepted S.numbered (p - 1) from-next.inside
+
+    -- x and y are the first child's position and the one past the last
+    module _ {x y : ℕ} (ex : x ≡ first_of_children work (p - 1)) (ey : y ≡ past_children work (p - 1)) where
+      is-first : x ≡ first_at (tree_of (table_of s)) (p - 1)
+      is-first = ex ∙ first-value (table_of s) G.accepted S.numbered (p - 1) from-next.inside
+
+      is_past : y ≡ first_at (tree_of (table_of s)) (suc (p - 1))
+      is_past = ey ∙ past_value (table_of s) G.accepted S.numbered (p - 1) from-next.inside
+
+      pub turn-ready : x < y → Ready (table_of s) (spacing_of s) (p - 1) work
+      turn-ready h = families_ready (table_of s) (spacing_of s) in_order from-next (rw (← is-first, ← is_past) h)
+
+      pub turn-leaf : y ≤ x → DrawnFrom (table_of s) (spacing_of s) (p - 1) before work
+      turn-leaf h = families_leaf (table_of s) (spacing_of s) in_order from-next (rw (← is-first, ← is_past) h)
+
+    pub turn-drawn : {after : List ℤ} → FamilyDrawn (table_of s) (spacing_of s) (p - 1) work after → DrawnFrom (table_of s) (spacing_of s) (p - 1) before after
+    turn-drawn = families_turn (table_of s) (spacing_of s) in_order from-next

@@ -1,14 +1,12 @@
 -- The end of a family: all its children are joined, so the gathered moves can be carried out, and after them the family is drawn. Assumes nothing.
 use mathlib.Core.Path.{◌≡◌, sym, ap, ap₂, ◌∙◌}
 use mathlib.Core.Logic.{◌⊎◌, inl, inr, ⊎_elim}
-use mathlib.Core.Bool.{true}
 use mathlib.Core.List.{List}
 use Prim.Native.Nat.{ℕ, suc, ◌+◌, ◌-◌, ◌*◌, ◌/◌, ◌≤◌, ◌<◌}
 use native.Mathlib.Nat.{le_refl}
 use native.Mathlib.Omega.{arith}
 use lib.IntN.{ℤ, pos, negsuc, ◌+ℤ◌, ◌-ℤ◌, nat_abs}
 use lib.ListN.{length, drop}
-use lib.Signed.{non_neg}
 use Rattle.rule.specs.Join.{Spacing}
 use Rattle.tree.specs.Numbers.{is}
 use Rattle.tree.specs.Table.{nodes}
@@ -85,14 +83,6 @@ module _ {t : List ℕ} {D : Spacing} {p : ℕ} {before : List ℤ} (G : Given t
   module _ (mid : List ℤ) (A : AllJoined t D F E (work G R) mid) where
     pub joined-few : E ≤ 1024
     joined-few = omega (arith, fits G R, few)
-
-    pub joined-room : 16 * E ≤ length mid
-    joined-room = omega (arith, fits G R, A.rowed.numbered.size)
-
-    pub joined-last : non_neg (get mid PLACE (E - 1)) ≡ true
-    joined-last =
-        let r = A.rowed.stood (E - 1) (omega (arith, R.some)) (omega (arith, R.some)) in
-        ap non_neg r.2
 
     -- what the pass reads is small
     pub joined-bounded : Bounded F E mid

@@ -20,9 +20,11 @@ use Rattle.rule.proofs.OnLevel.{OnLevel}
 use Rattle.rule.proofs.Lookup.{on-names}
 use Rattle.level_order.specs.LevelOrder.{first_at}
 use Rattle.level_order.specs.Fields.{get, NEED, PLACE, LEFT, RIGHT}
+use Rattle.level_order.specs.Spaced.{table_of}
+use Rattle.level_order.specs.declared.spaced_tree.SpacedTree.{SpacedTree}
 use Rattle.level_order.proofs.Positions.{Ordered, run, family, run-node, run-nil, laid-run}
 use Rattle.level_order.proofs.InOrder.{ordered}
-use Rattle.level_order.proofs.Fielded.{needed-at}
+use Rattle.level_order.proofs.Fielded.{needed-at, accepted-most}
 use Rattle.level_order.proofs.Occurs.{times_cut}
 use Rattle.contours.specs.Contours.{LeftSteps, RightSteps}
 use Rattle.contours.specs.Rows.{row_drawn, children_drawn}
@@ -32,13 +34,22 @@ use Rattle.contours.proofs.Places.{row_more, row-width, join-new, last_place_lem
 use Rattle.contours.proofs.Steps.{subtree-left, subtree-right}
 use Rattle.contours.proofs.RowNext.{fields_of, the_width, rule_row, rule_child, the_join}
 use Rattle.contours.proofs.Bounds.{row_bound}
-use Rattle.families.specs.Joining.{columns_of, occurs, Given, Siblings, Rowed, Waiting}
+use Rattle.families.specs.Joining.{spacing_of, columns_of, occurs, Given, Siblings, Rowed, Waiting}
+
+-- a spaced tree's distances are no more than the walk can add up
+pub given_of : (s : SpacedTree) → Given (table_of s) (spacing_of s)
+given_of s = record { accepted = s.accepted.accepted; high = λ p q. accepted-most s.accepted _ _; little = s.little }
 
 pub record Joins (t : List ℕ) (D : Spacing) (f c end default : ℕ) (before : List ℤ) : Type 0 where
   pub given : Given t D
   pub rowed : Rowed t D f c end default before
   pub waiting : Waiting t D f end c before
   pub inside : c < end
+
+-- those of a spaced tree
+pub joins_of : (s : SpacedTree) {f c end default : ℕ} {before : List ℤ} → Rowed (table_of s) (spacing_of s) f c end default before
+    → Waiting (table_of s) (spacing_of s) f end c before → c < end → Joins (table_of s) (spacing_of s) f c end default before
+joins_of s R W h = record { given = given_of s; rowed = R; waiting = W; inside = h }
 
 -- the same, with what it speaks of
 pub record Joining : Type 0 where

@@ -9,7 +9,9 @@ pub mod Deeper
 pub mod Stale
 pub mod Threaded
 pub mod JoinEnd
+pub mod Turn
 pub mod Through
 pub mod FamilyStart
 pub mod FamilyEnd
+pub mod FamilySteps
 pub mod FamiliesLoop

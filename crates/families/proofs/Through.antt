@@ -18,18 +18,6 @@ use Rattle.level_order.proofs.Positions.{Ordered}
 use Rattle.level_order.proofs.Occurs.{times_cut, times-root}
 use Rattle.contours.proofs.Kept.{subtree-kept}
 
-pub through-start : (t : List ℕ) (f c : ℕ) (work : List ℤ) → Through t f c work work
-through-start t f c work =
-    record {
-      size = refl;
-      rest = refl;
-      numbering = λ g p h. refl;
-      place = λ p h. refl;
-      steps = λ g z l r h. refl;
-      ancestor = λ z. inl refl;
-      gathered = λ g p l r h. refl;
-    }
-
 outside-less : (f c p : ℕ) → (p < f) ⊎ (suc c ≤ p) → (p < f) ⊎ (c ≤ p)
 outside-less f c p h = ⊎_elim (λ k. inl k) (λ k. inr (omega (arith, k))) h
 

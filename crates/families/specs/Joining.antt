@@ -5,11 +5,17 @@ use Rattle.tree.specs.Table.{nodes}
 use Rattle.tree.specs.Forest.{tree_of, preorder}
 use Rattle.tree.specs.WellFormed.{table_number}
 use Rattle.rule.specs.Drawing.{last_place}
-use Rattle.rule.specs.Join.{Spacing}
+use Rattle.rule.specs.Join.{Spacing, spaced}
 use Rattle.level_order.specs.LevelOrder.{first_at, positions}
 use Rattle.level_order.specs.Fields.{get, PLACE, LEFT, RIGHT, ANCESTOR, SHIFT, CHANGE}
 use Rattle.level_order.specs.Numbered.{Numbered}
+use Rattle.level_order.specs.Spaced.{apart_of}
+use Rattle.level_order.specs.declared.spaced_tree.SpacedTree.{SpacedTree}
 use Rattle.contours.specs.Rows.{Columns, Outside, Subtree, Row, row_drawn}
+
+-- what keeps the positions of a spaced tree apart
+abbrev pub spacing_of : SpacedTree → Spacing
+spacing_of s = spaced (apart_of s) s.extra
 
 -- the fields of a family
 abbrev pub columns_of : List ℤ → Columns

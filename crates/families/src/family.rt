@@ -1,56 +1,44 @@
 // Draws the children of one node as a row: each child is joined to its elder siblings, then the gathered moves are carried out.
-ghost use Rattle.std.specs.Prelude.{◌+◌, ◌-◌, ◌<◌};
-ghost use Rattle.rule.specs.Join.{spaced};
-ghost use Rattle.level_order.specs.Fields;
-ghost use Rattle.level_order.specs.Numbered.{apart};
-ghost use Rattle.families.specs.Joining.{Given};
+ghost use Rattle.level_order.specs.Spaced.{table_of};
+ghost use Rattle.families.specs.Joining.{spacing_of};
 ghost use Rattle.families.specs.Families.{Ready, FamilyDrawn, Begun, AllJoined};
 
 use super::join::join;
-use descent::{past, position};
-use level_order::field::{FIRST, LEFT, PLACE, RIGHT, get, put};
+use descent::{Elders, past, position};
+use level_order::field::{Field, get, put};
+use level_order::spaced_tree::SpacedTree;
 use shifts::execute;
 
 // Joins the children of one node after the first, each to those before it.
-fn others(
-    table: &[u16],
-    separation: u16,
-    widths: &[u16],
-    extra: u16,
-    work: &mut [i32],
-    f: usize,
-    end: usize,
-)
-    requires given { Given table.now (spaced (apart table.now separation widths.now) extra) }
-    requires begun { Begun table.now (spaced (apart table.now separation widths.now) extra) f end work.old }
-    ensures { AllJoined table.now (spaced (apart table.now separation widths.now) extra) f end work.old work.new }
+fn others(tree: &SpacedTree<'_>, work: &mut [i32], first: usize, end: usize)
+    requires { Begun (table_of tree.now) (spacing_of tree.now) first end work.old }
+    ensures { AllJoined (table_of tree.now) (spacing_of tree.now) first end work.old work.new }
 {
-    let mut default = f;
-    let mut c = f + 1;
-    while c < end {
-        default = join(table, separation, widths, extra, work, f, c, end, default);
-        c += 1;
+    let mut default = first;
+    for child in first + 1..end {
+        default = join(
+            tree,
+            work,
+            Elders {
+                first,
+                child,
+                default,
+            },
+            end,
+        );
     }
 }
 
 // Places the children of position p and stores the contours of its subtree.
-pub fn family(
-    table: &[u16],
-    separation: u16,
-    widths: &[u16],
-    extra: u16,
-    work: &mut [i32],
-    p: usize,
-)
-    requires given { Given table.now (spaced (apart table.now separation widths.now) extra) }
-    requires ready { Ready table.now (spaced (apart table.now separation widths.now) extra) p work.old }
-    ensures { FamilyDrawn table.now (spaced (apart table.now separation widths.now) extra) p work.old work.new }
+pub fn family(tree: &SpacedTree<'_>, work: &mut [i32], p: usize)
+    requires { Ready (table_of tree.now) (spacing_of tree.now) p work.old }
+    ensures { FamilyDrawn (table_of tree.now) (spacing_of tree.now) p work.old work.new }
 {
-    let f = position(work, p, FIRST);
+    let first = position(work, p, Field::First);
     let end = past(work, p);
-    put(work, f, PLACE, 0);
-    others(table, separation, widths, extra, work, f, end);
-    execute(work, f, end);
-    put(work, p, LEFT, get(work, f, PLACE));
-    put(work, p, RIGHT, get(work, end - 1, PLACE));
+    put(work, first, Field::Place, 0);
+    others(tree, work, first, end);
+    execute(work, first, end);
+    put(work, p, Field::Left, get(work, first, Field::Place));
+    put(work, p, Field::Right, get(work, end - 1, Field::Place));
 }

@@ -1,43 +1,29 @@
 // Joins one child to its elder siblings, level by level down the contours.
 ghost use Rattle.std.specs.Prelude.{◌<◌};
-ghost use Rattle.rule.specs.Join.{spaced};
-ghost use Rattle.level_order.specs.Numbered.{apart};
-ghost use Rattle.families.specs.Joining.{Given, Rowed, Waiting, Joined};
+ghost use Rattle.level_order.specs.Spaced.{table_of};
+ghost use Rattle.families.specs.Joining.{spacing_of, Rowed, Waiting, Joined};
 
-use descent::{begin, descend, ended, meet, thread, widened};
-use level_order::field::{PLACE, put};
+use descent::{Elders, begin, descend, ended, meet, thread, widened};
+use level_order::field::{Field, put};
+use level_order::spaced_tree::SpacedTree;
 
-// Joins the child at position c to those from f to c, of the children from f to end, and says which child is the default now. Table,
-// separation and half-widths stand in the contract alone; `extra` is added where the walk met a conflict. On the top level the child starts
-// at the distance that it needs: nothing is met there.
-pub fn join(
-    table: &[u16],
-    separation: u16,
-    widths: &[u16],
-    extra: u16,
-    work: &mut [i32],
-    f: usize,
-    c: usize,
-    end: usize,
-    default: usize,
-) -> usize
-    requires given { Given table.now (spaced (apart table.now separation widths.now) extra) }
-    requires rowed { Rowed table.now (spaced (apart table.now separation widths.now) extra) f c end default work.old }
-    requires waiting { (Waiting table.now (spaced (apart table.now separation widths.now) extra) f end c work.old) × (c < end) }
-    ensures { Joined table.now (spaced (apart table.now separation widths.now) extra) f c end result work.old work.new }
+// Joins a child to its elder siblings, and says which child is the default now. Of the tree only the extra space is read, which is added where
+// the walk met a conflict; `end`, the position past the last sibling, stands in the contract alone. On the top level the child starts at the
+// distance that it needs: nothing is met there.
+pub fn join(tree: &SpacedTree<'_>, work: &mut [i32], elders: Elders, end: usize) -> usize
+    requires rowed { Rowed (table_of tree.now) (spacing_of tree.now) elders.first elders.child end elders.default work.old }
+    requires waiting { Waiting (table_of tree.now) (spacing_of tree.now) elders.first end elders.child work.old }
+    requires inside { elders.child < end }
+    ensures { Joined (table_of tree.now) (spacing_of tree.now) elders.first elders.child end result work.old work.new }
 {
-    let mut s = begin(work, f, c);
+    let mut s = begin(work, elders);
     let start = s.left;
-    'contours: loop {
-        if ended(work, s) {
-            break 'contours;
-        }
+    while !ended(work, s) {
         s = descend(work, s);
-        let amount = meet(work, s, f, c, default);
-        s.moved = s.moved + amount;
+        s.moved += meet(work, s, elders);
     }
-    s.moved = widened(s.moved, extra);
-    let next = thread(work, s, f, c, default);
-    put(work, c, PLACE, start + s.moved);
-    next
+    s.moved = widened(s.moved, tree.extra);
+    let default = thread(work, s, elders);
+    put(work, elders.child, Field::Place, start + s.moved);
+    default
 }

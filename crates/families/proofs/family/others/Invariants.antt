@@ -1,19 +1,10 @@
--- `families::family::others` meets its contract. The measure is how many children are left. Assumes nothing.
-use mathlib.Core.List.{List}
-use Prim.Native.Nat.{ℕ, ◌-◌}
-use lib.IntN.{ℤ}
-use Rattle.rule.specs.Join.{Spacing, spaced}
-use Rattle.level_order.specs.Numbered.{apart}
-use Rattle.families.specs.Joining.{Rowed}
+-- `families::family::others` meets its contract. Assumes nothing.
+use Rattle.level_order.specs.Spaced.{table_of}
+use Rattle.families.specs.Joining.{spacing_of, Rowed}
 use Rattle.families.specs.Families.{Through}
 use Rattle.families.proofs.family.others.Given as goal
 
--- the children before c are joined
-abbrev pub SoFar : List ℕ → Spacing → ℕ → ℕ → ℕ → ℕ → List ℤ → List ℤ → Type 0
-SoFar t D f end default c before work = Rowed t D f c end default work × Through t f c before work
-
-abbrev pub invariant-loop-c : goal.invariant-loop-c
-invariant-loop-c l = SoFar l.table (spaced (apart l.table l.separation l.widths) l.extra) l.f l.end l.default l.c l.initial.work l.work
-
-abbrev pub decreases-loop-c : goal.decreases-loop-c
-decreases-loop-c l = l.end - l.c
+-- the children before it are joined
+abbrev pub invariant-loop-child : goal.invariant-loop-child
+invariant-loop-child l =
+    Rowed (table_of l.tree) (spacing_of l.tree) l.first l.child l.end l.default l.work × Through (table_of l.tree) l.first l.child l.initial.work l.work
