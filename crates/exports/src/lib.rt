@@ -122,10 +122,12 @@ pub extern "C" fn hiwenoka_read_sheet(
 ) -> u16
     ensures { SheetRead file.now table.old tapes.old widths.old (record { number = result; nodes = nodes.new; separation = separation.new }) table.new tapes.new widths.new }
 {
-    let sheet = sheet::read_sheet(file, table, tapes, widths);
+    let read = sheet::read_sheet(file, table, tapes, widths);
+    let none = sheet::Sheet { nodes: 0, separation: 0 };
+    let (number, sheet) = told(read, none);
     *nodes = sheet.nodes;
     *separation = sheet.separation;
-    sheet.number
+    number
 }
 
 #[unsafe(no_mangle)]

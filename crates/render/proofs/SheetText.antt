@@ -11,8 +11,7 @@ use Rattle.refusal.proofs.After.{granted-accepted, after-accepted, take-overwrit
 use Rattle.refusal.proofs.Truth.{or-true}
 use Rattle.blocks.specs.Block.{block_bytes}
 use Rattle.sheet.specs.Layout.{blocks_for}
-use Rattle.sheet.specs.declared.Sheet.{Sheet}
-use Rattle.sheet.specs.Read.{nodes_of, separation_of, table_of, tapes_of, half_widths_of, length_wrong, file_number, number_read, SheetRead}
+use Rattle.sheet.specs.Read.{nodes_of, separation_of, table_of, tapes_of, half_widths_of, length_wrong, file_number, number_read, Answer, SheetRead}
 use Rattle.sheet.proofs.Reading.{length_pairs, length_singles}
 use Rattle.sheet.proofs.Answer.{readable, file-decides}
 use Rattle.lines.specs.Listing.{refused_line}
@@ -26,18 +25,18 @@ pub with_room : {text old new : List ℕ} {answer : ℕ} → text_room ≤ lengt
     → Printed (when (leb text_room (length old)) text) old answer new
 with_room {text} {old} {new} {answer} room p = subst (λ (b : Bool). Printed (when b text) old answer new) (sym (le-leb text_room (length old) room)) p
 
-module _ {file table tapes widths table' tapes' widths' : List ℕ} {r : Sheet} (S : SheetRead file table tapes widths r table' tapes' widths')
+module _ {file table tapes widths table' tapes' widths' : List ℕ} {r : Answer} (S : SheetRead file table tapes widths r table' tapes' widths')
     (table-long : 2048 ≤ length table) (tapes-long : 2048 ≤ length tapes) (widths-long : 1024 ≤ length widths) where
   reads : number_read file table tapes widths ≡ file_number file
   reads = file-decides file (length table) (length tapes) (length widths) table-long tapes-long widths-long
 
   -- a refusal
-  pub refused-sheet : {old new : List ℕ} {k : ℕ} → text_room ≤ length old → (r.number ≡ 0 → ⊥) → RefusalPrinted r.number old k new
-      → Printed (sheet_text file) old k new
+  pub refused-sheet : {told answer : ℕ} {old new : List ℕ} → text_room ≤ length old → (r.number ≡ 0 → ⊥) → told ≡ r.number
+      → RefusalPrinted told old answer new → Printed (sheet_text file) old answer new
   unfolding sheet_text
-  refused-sheet room h p =
+  refused-sheet {told} room h is p =
       let number : r.number ≡ file_number file = S.number ∙ reads in
-      refusal-shown r.number room (ap refused_line number ∙ sym (text_refused (file_number file) _ (λ e. h (number ∙ e)))) p
+      refusal-shown told room (ap refused_line (is ∙ number) ∙ sym (text_refused (file_number file) _ (λ e. h (number ∙ e)))) p
 
   -- an acceptance
   module _ (e : r.number ≡ 0) where

@@ -64,17 +64,17 @@ pub fn list_sheet(file: &[u8], out: &mut [u8]) -> Option<usize>
     let mut table = [0u16; 2048];
     let mut tapes = [0u16; 2048];
     let mut widths = [0u16; 1024];
-    let sheet = sheet::read_sheet(file, &mut table, &mut tapes, &mut widths);
-    if sheet.number != 0 {
-        return lines::write_refusal(sheet.number, out);
+    match sheet::read_sheet(file, &mut table, &mut tapes, &mut widths) {
+        Ok(sheet) => {
+            let n = sheet.nodes as usize;
+            list_table(
+                &table[..2 * n],
+                sheet.separation,
+                &tapes[..2 * n],
+                &widths[..n],
+                out,
+            )
+        }
+        Err(refusal) => lines::write_refusal(refusal.number(), out),
     }
-    let n = sheet.nodes as usize;
-    let entries = 2 * n;
-    list_table(
-        &table[..entries],
-        sheet.separation,
-        &tapes[..entries],
-        &widths[..n],
-        out,
-    )
 }
