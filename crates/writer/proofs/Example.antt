@@ -11,7 +11,7 @@ use Rattle.sheet.specs.Layout.{count_word}
 use Rattle.sheet.specs.File.{row, content, block_of, file_of}
 use Rattle.sheet.proofs.Example.{links, tapes, half_widths, header_words_lem, rows_words}
 use Rattle.writer.specs.Write.{sheet_file, write_number, SheetWritten}
-use Rattle.writer.specs.declared.Written.{Written}
+use Rattle.writer.specs.Write.{Answer}
 
 -- its words, with 23 and 65,506, and 15,029 and 49,001, as check words
 abbrev header : List ℕ
@@ -36,7 +36,7 @@ unfolding write_number table_conditions bad_length bad_entry root_has_sibling na
 example_numbers = (refl, refl, refl, refl, refl, refl, refl)
 
 -- of an output of 1,026 bytes that all hold 9, two are left
-pub example_written : (a : Written) (out' : List ℕ) → SheetWritten links 3 tapes half_widths (replicate 1026 9) a out'
+pub example_written : (a : Answer) (out' : List ℕ) → SheetWritten links 3 tapes half_widths (replicate 1026 9) a out'
     → (a ≡ record { number = 0; bytes = 1024 }) × (out' ≡ bytes_of header ++ bytes_of rows ++ 9 ∷ 9 ∷ [])
 unfolding write_number table_conditions bad_length bad_entry root_has_sibling named_twice unnamed not_reached tree_of forest bad_separation bad_half_widths total joined bytes_of word_sum weighted_sum closing count_word row content padded weighed closed block_of file_of overwrite after
 example_written a out' written =

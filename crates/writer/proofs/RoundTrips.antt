@@ -22,12 +22,12 @@ use Rattle.sheet.proofs.RoundTrip.{read-written}
 use Rattle.sheet.proofs.Reading.{length_pairs, length_singles}
 use Rattle.sheet.proofs.Written.{length-file, entries_unseen}
 use Rattle.writer.specs.Write.{sheet_file, own_conditions, write_number, SheetWritten}
-use Rattle.writer.specs.declared.Written.{Written}
+use Rattle.writer.specs.Write.{Answer as WriterAnswer}
 use Rattle.writer.proofs.Answer.{Taken, taken}
 
 -- ---- what an accepted call wrote
 
-module _ (table : List ℕ) (D : ℕ) (tapes half_widths out : List ℕ) (a : Written) (out' : List ℕ)
+module _ (table : List ℕ) (D : ℕ) (tapes half_widths out : List ℕ) (a : WriterAnswer) (out' : List ℕ)
     (written : SheetWritten table D tapes half_widths out a out') (zero_number : a.number ≡ 0) where
   number : write_number table D tapes half_widths out ≡ 0
   number = sym written.number ∙ zero_number
@@ -112,7 +112,7 @@ module _ (table : List ℕ) (D : ℕ) (tapes other-tapes half_widths other-half-
         same-file,
       )
 
-  pub past_unseen : (a : Written) (out' : List ℕ) → SheetWritten table D tapes half_widths out a out'
+  pub past_unseen : (a : WriterAnswer) (out' : List ℕ) → SheetWritten table D tapes half_widths out a out'
       → SheetWritten table D other-tapes other-half-widths out a out'
   past_unseen a out' written = record {
     number = written.number ∙ same_number;
@@ -184,7 +184,7 @@ module _ (bytes old-table old-tapes old-half-widths : List ℕ) (r : Answer) (ta
   good : bad_separation r.separation ≡ false
   good = separation-good r.separation (rw separation-read A.file-sound.separation-some) (rw separation-read A.file-sound.separation-most)
 
-  module _ (out : List ℕ) (a : Written) (out' : List ℕ) (room : length bytes ≤ length out)
+  module _ (out : List ℕ) (a : WriterAnswer) (out' : List ℕ) (room : length bytes ≤ length out)
       (written : SheetWritten table_read r.separation tapes' halfWidths' out a out') where
     -- what the reader does not judge, and the writer does: the tree and the half-widths
     abbrev pub unjudged : List Condition

@@ -1,11 +1,14 @@
 -- The rows of a block, stored one after the other, and the zeros behind them. Assumes nothing.
-use Rattle.std.proofs.Common.{◌≡◌, ℕ, ◌+◌, ◌-◌, ◌*◌, ◌<◌, ◌≤◌, ◌⊎◌, List, [], ◌∷◌, length, replicate, sym, refl, ap, ◌∙◌, inl, inr, arith}
-use lib.ListN.{length-replicate, replicate-append-replicate}
+use Rattle.std.proofs.Common.{◌≡◌, ℕ, ◌+◌, ◌-◌, ◌*◌, ◌<◌, ◌≤◌, ◌⊎◌, List, length, replicate, take, drop, zero, suc, ◌++◌, append_assoc, sym, refl, ap, ◌∙◌, inl, inr, arith}
+use lib.ListN.{length-replicate}
+use lib.Seq.{sets, sets-eq, drop-drop}
+use borrow.Rule.Slice.PartMut.{put_mid}
+use Rattle.blocks.specs.Block.{block_bytes, weighted_place, bytes_of}
 use Rattle.sheet.specs.Layout.{first_word, row_words, row_word, node_word, block_rows, rows_in}
 use Rattle.sheet.specs.File.{row}
 use Rattle.blocks.proofs.Below.{joined-more, length-joined}
 use Rattle.sheet.proofs.Places.{row_at}
-use Rattle.writer.specs.Steps.{store_words, rows_from}
+use Rattle.writer.specs.Steps.{store_words, rows_from, zeroed}
 use Rattle.writer.proofs.Stored.{stored_next}
 
 module _ (table tapes half_widths : List ℕ) (first : ℕ) where
@@ -37,12 +40,27 @@ module _ (n b first r : ℕ) (begins : first ≡ block_rows * b) (from : first �
   none-further (inl h) = omega arith
   none-further (inr h) = omega (arith, row_word_lem)
 
--- one zero more
-pub zeros_more : (block current last : List ℕ) (used place : ℕ) → used ≤ place → current ≡ store_words block used (replicate (place - used) 0)
-    → last ≡ store_words current place (0 ∷ [])
-    → last ≡ store_words block used (replicate (place + 1 - used) 0)
-zeros_more block current last used place h isCurrent is_last =
-    let behind : place ≡ used + length (replicate {A = ℕ} (place - used) 0) = omega (arith, length-replicate {A = ℕ} (place - used) 0) in
-    let more : place - used + 1 ≡ place + 1 - used = omega arith in
-    stored_next block used (replicate (place - used) 0) (0 ∷ []) current last place behind isCurrent is_last
-    ∙ ap (store_words block used) (replicate-append-replicate (place - used) 1 0 ∙ ap (λ (k : ℕ). replicate k 0) more)
+-- zeros are words of 0
+bytes-zeros : (n : ℕ) → bytes_of (replicate n 0) ≡ replicate (2 * n) 0
+unfolding bytes_of
+bytes-zeros zero = refl
+bytes-zeros (suc n) =
+    let more : 2 * suc n ≡ suc (suc (2 * n)) = omega arith in
+    rw (more, bytes-zeros n) refl
+
+-- so a part of a block that is filled with them has these words
+pub zeros_filled : (block : List ℕ) (used : ℕ) → block_bytes ≤ length block → used ≤ weighted_place
+    → put_mid (2 * used) (2 * weighted_place - 2 * used) block (replicate (2 * weighted_place - 2 * used) 0) ≡ zeroed used block
+unfolding store_words
+zeros_filled block used whole fits =
+    let from : ℕ = 2 * used in
+    let count : ℕ = 2 * weighted_place - 2 * used in
+    let zeros : List ℕ = replicate count 0 in
+    let size : length zeros ≡ count = length-replicate {A = ℕ} count 0 in
+    let twice : 2 * (weighted_place - used) ≡ count = omega arith in
+    let words : bytes_of (replicate (weighted_place - used) 0) ≡ zeros = bytes-zeros (weighted_place - used) ∙ ap (λ (n : ℕ). replicate n 0) twice in
+    ap (λ (rest : List ℕ). take from block ++ (zeros ++ rest)) (drop-drop count from block)
+    ∙ sym (append_assoc (take from block) zeros (drop (from + count) block))
+    ∙ ap (λ (n : ℕ). (take from block ++ zeros) ++ drop (from + n) block) (sym size)
+    ∙ sym (sets-eq zeros block from (omega (arith, size)))
+    ∙ ap (sets block from) (sym words)

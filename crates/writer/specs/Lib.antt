@@ -2,3 +2,4 @@
 -- table, on `distance` for those of the separation and of the half-widths, and on `sheet` for the file; `exports` calls the writer.
 pub mod Write
 pub mod Steps
+pub mod Rows

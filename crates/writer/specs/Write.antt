@@ -1,12 +1,13 @@
 -- Writing a sheet: the conditions 1 to 5, 14, 6, 13, 17 and 7, what is written, and what the operation promises.
-use Rattle.std.specs.Prelude.{◌≡◌, ℕ, ◌*◌, Bool, List, [], ◌∷◌, ◌++◌, length, nat_lt}
+use Rattle.std.specs.Prelude.{◌≡◌, ℕ, ◌*◌, Bool, List, [], ◌∷◌, ◌++◌, Result, Ok, Err, length, nat_lt}
+use Rattle.refusal.specs.declared.Refusal.{Refusal}
+use Rattle.refusal.specs.Number.{number}
 use Rattle.refusal.specs.First.{Condition, ◌⇐◌, first}
 use Rattle.refusal.specs.After.{granted, after}
 use Rattle.tree.specs.Table.{nodes}
 use Rattle.tree.specs.WellFormed.{table_conditions}
 use Rattle.distance.specs.Needed.{bad_separation, bad_half_widths}
 use Rattle.sheet.specs.File.{file_of}
-use Rattle.writer.specs.declared.Written.{Written}
 
 -- the file of a table, D, tapes and half-widths
 abbrev pub sheet_file : List ℕ → ℕ → List ℕ → List ℕ → List ℕ
@@ -33,8 +34,17 @@ own_conditions table separation tapes half_widths out =
 unfoldable pub write_number : List ℕ → ℕ → List ℕ → List ℕ → List ℕ → ℕ
 write_number table separation tapes half_widths out = first (table_conditions table ++ own_conditions table separation tapes half_widths out)
 
+-- what a call answers: the number, and the count of bytes, which a refusal gives as 0
+pub record Answer : Type 0 where
+  pub number : ℕ
+  pub bytes : ℕ
+
+abbrev pub answer_of : Result ℕ Refusal → Answer
+answer_of (Ok bytes) = record { number = 0; bytes = bytes }
+answer_of (Err refused) = record { number = number refused; bytes = 0 }
+
 -- what `write_sheet` promises of its answer and of the output afterwards
-pub record SheetWritten (table : List ℕ) (separation : ℕ) (tapes half_widths out : List ℕ) (answer : Written) (out' : List ℕ) : Type 0 where
+pub record SheetWritten (table : List ℕ) (separation : ℕ) (tapes half_widths out : List ℕ) (answer : Answer) (out' : List ℕ) : Type 0 where
   pub number : answer.number ≡ write_number table separation tapes half_widths out
   pub bytes : answer.bytes ≡ granted (write_number table separation tapes half_widths out) (length (sheet_file table separation tapes half_widths)) 0
   pub out-after : out' ≡ after (write_number table separation tapes half_widths out) (sheet_file table separation tapes half_widths) out

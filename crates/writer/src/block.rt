@@ -3,10 +3,11 @@ ghost use Rattle.std.specs.Prelude.{◌≡◌, ◌+◌, ◌*◌, ◌<◌, ◌≤
 ghost use Rattle.blocks.specs.Block.{block_bytes, weighted_place};
 ghost use Rattle.sheet.specs.Layout.{first_word, header_mark, node_word};
 ghost use Rattle.sheet.specs.Steps.{pair_of};
-ghost use Rattle.sheet.specs.File.{row};
 ghost use Rattle.sheet.specs.Walk.{OnRow};
-ghost use Rattle.writer.specs.Steps.{store_words, Begun, Past, rows_of, rows_from, zeroed, close_block, block_over};
+ghost use Rattle.writer.specs.Steps.{store_words, Past, rows_of, zeroed, close_block, block_over};
+ghost use Rattle.writer.specs.Rows.{node_count, row_of, BlockBegun, rows_of_block};
 
+use super::node_rows::Rows;
 use blocks::check::sums_of;
 use blocks::{CLOSING_PLACE, WEIGHTED_PLACE};
 use sheet::layout::{FIRST_WORD, HEADER_MARK, HEADER_WORDS, LAST_ROW_WORD, ROW_WORDS, rows_of};
@@ -17,8 +18,7 @@ fn put(block: &mut [u8], place: usize, word: u16)
     requires { 2 * place + 1 < length block.old }
     ensures { block.new ≡ store_words block.old place (word ∷ []) }
 {
-    let low = (word & 255) as u8;
-    let high = (word >> 8) as u8;
+    let [low, high] = word.to_le_bytes();
     block[2 * place] = low;
     block[2 * place + 1] = high;
 }
@@ -46,43 +46,36 @@ fn put_head(block: &mut [u8], place: usize, count: usize)
 }
 
 // Stores a node's row: first child, next sibling, tape low, tape high, half-width.
-fn put_row(block: &mut [u8], at: RowPlace, table: &[u16], tapes: &[u16], widths: &[u16])
+fn put_row(block: &mut [u8], at: RowPlace, rows: Rows<'_>)
     requires on_row { (OnRow at) × (block_bytes ≤ length block.old) }
-    requires node_in_bounds { (2 * at.node + 1 < length table.now) × (2 * at.node + 1 < length tapes.now) × (at.node < length widths.now) }
-    ensures { block.new ≡ store_words block.old (node_word at.node) (row table.now tapes.now widths.now at.node) }
+    requires node { at.node < node_count rows }
+    ensures { block.new ≡ store_words block.old (node_word at.node) (row_of rows.entry at.node) }
 {
     let node = at.node;
-    put_pair(block, at.word, table, node);
-    put_pair(block, at.word + 2, tapes, node);
-    put(block, at.word + 4, widths[node]);
+    put_pair(block, at.word, rows.tree.entries, node);
+    put_pair(block, at.word + 2, rows.tapes, node);
+    put(block, at.word + 4, rows.widths[node]);
 }
 
 // Stores the rows of a block from its first one on, and gives the row after them. The last one is stored after the loop, so that the loop
 // stays in the block; the first one's word is given anew, so that the rows are counted without a division.
-fn put_rows(
-    block: &mut [u8],
-    from: RowPlace,
-    nodes: usize,
-    table: &[u16],
-    tapes: &[u16],
-    widths: &[u16],
-) -> RowPlace
-    requires begun { Begun nodes from table.now tapes.now widths.now }
+fn put_rows(block: &mut [u8], from: RowPlace, rows: Rows<'_>) -> RowPlace
+    requires begun { BlockBegun rows from }
     requires block_bytes_in_bounds { block_bytes ≤ length block.old }
-    ensures past { Past nodes from result }
-    ensures block_after { block.new ≡ store_words block.old first_word (rows_from table.now tapes.now widths.now from.node (rows_of nodes from)) }
+    ensures past { Past (node_count rows.entry) from result }
+    ensures block_after { block.new ≡ store_words block.old first_word (rows_of_block rows.entry from) }
 {
-    let last = nodes - 1;
+    let last = rows.tree.nodes() - 1;
     let mut at = RowPlace {
         node: from.node,
         block: from.block,
         word: FIRST_WORD,
     };
     while at.node < last && at.word < LAST_ROW_WORD {
-        put_row(block, at, table, tapes, widths);
+        put_row(block, at, rows);
         at = next_row(at);
     }
-    put_row(block, at, table, tapes, widths);
+    put_row(block, at, rows);
     next_row(at)
 }
 
@@ -91,11 +84,7 @@ fn put_zeros(block: &mut [u8], used: usize)
     requires { (block_bytes ≤ length block.old) × (used ≤ weighted_place) }
     ensures { block.new ≡ zeroed used block.old }
 {
-    let mut place = used;
-    while place < WEIGHTED_PLACE {
-        put(block, place, 0);
-        place += 1;
-    }
+    block[2 * used..2 * WEIGHTED_PLACE].fill(0);
 }
 
 // Stores the check words: the weighted sum, and the word that closes the sum with it.
@@ -104,9 +93,9 @@ fn close(block: &mut [u8])
     ensures { block.new ≡ close_block block.old }
 {
     let sums = sums_of(block);
-    let sum = std::num::wrapping_add_u16(sums.plain, sums.weighted);
+    let sum = sums.plain.wrapping_add(sums.weighted);
     put(block, WEIGHTED_PLACE, sums.weighted);
-    put(block, CLOSING_PLACE, std::num::wrapping_sub_u16(0, sum));
+    put(block, CLOSING_PLACE, sum.wrapping_neg());
 }
 
 // Writes the header, block 0: n and D.
@@ -122,23 +111,16 @@ pub fn write_header(block: &mut [u8], nodes: usize, separation: u16)
 }
 
 // Writes a block of rows from its first row on, and gives the row after them.
-pub fn write_block(
-    block: &mut [u8],
-    from: RowPlace,
-    nodes: usize,
-    table: &[u16],
-    tapes: &[u16],
-    widths: &[u16],
-) -> RowPlace
-    requires begun { Begun nodes from table.now tapes.now widths.now }
+pub fn write_block(block: &mut [u8], from: RowPlace, rows: Rows<'_>) -> RowPlace
+    requires begun { BlockBegun rows from }
     requires block_bytes_in_bounds { block_bytes ≤ length block.old }
-    ensures past { Past nodes from result }
-    ensures block_after { block.new ≡ block_over (from.block ∷ rows_of nodes from ∷ rows_from table.now tapes.now widths.now from.node (rows_of nodes from)) block.old }
+    ensures past { Past (node_count rows.entry) from result }
+    ensures block_after { block.new ≡ block_over (from.block ∷ rows_of (node_count rows.entry) from ∷ rows_of_block rows.entry from) block.old }
 {
-    let rows = rows_of(nodes - from.node);
-    put_head(block, from.block, rows);
-    let next = put_rows(block, from, nodes, table, tapes, widths);
-    put_zeros(block, FIRST_WORD + ROW_WORDS * rows);
+    let count = rows_of(rows.tree.nodes() - from.node);
+    put_head(block, from.block, count);
+    let next = put_rows(block, from, rows);
+    put_zeros(block, FIRST_WORD + ROW_WORDS * count);
     close(block);
     next
 }

@@ -2,89 +2,89 @@
 // block by block.
 #![tactic(auto)]
 
-ghost use Rattle.std.specs.Prelude.{◌≡◌, ◌*◌, ◌≤◌, length};
-ghost use Rattle.tree.specs.Table.{nodes};
-ghost use Rattle.tree.specs.WellFormed.{table_number};
-ghost use Rattle.writer.specs.Write.{sheet_file, write_number, SheetWritten};
+ghost use Rattle.std.specs.Prelude.{◌≡◌, ◌≤◌, IfOk, length};
+ghost use Rattle.refusal.specs.Number.{number_of};
+ghost use Rattle.distance.specs.Needed.{bad_separation};
+ghost use Rattle.writer.specs.Write.{write_number, answer_of, SheetWritten};
+ghost use Rattle.writer.specs.Rows.{file_of_rows};
 ghost use Rattle.writer.specs.Steps.{FileWritten};
 
 mod block;
+mod node_rows;
 
 use block::{write_block, write_header};
 use blocks::BLOCK_BYTES;
+use node_rows::Rows;
+use refusal::Refusal;
 use sheet::layout::blocks_for;
 use sheet::walk::first_row;
+use tree::Tree;
 
-// What writing a sheet gives: 0 with the count of bytes written, or the number of a refusal with 0.
-#[derive(Clone, Copy)]
-pub struct Written {
-    pub number: u16,
-    pub bytes: u16,
+// Whether D is not 1 to 1,024.
+fn separation_wrong(separation: u16) -> bool
+    ensures { result ≡ bad_separation separation }
+{
+    !(1..=1024).contains(&separation)
 }
 
-// The number of the first condition that holds, or 0.
-fn write_number(table: &[u16], separation: u16, tapes: &[u16], widths: &[u16], out: &[u8]) -> u16
-    ensures { result ≡ write_number table.now separation tapes.now widths.now out.now }
+// The rows of a sheet whose file has room in `out`, or the first condition that holds.
+fn check<'a>(
+    table: &'a [u16],
+    separation: u16,
+    tapes: &'a [u16],
+    widths: &'a [u16],
+    out: &[u8],
+) -> Result<Rows<'a>, Refusal>
+    ensures number { number_of result ≡ write_number table.now separation tapes.now widths.now out.now }
+    ensures same_slices { IfOk result (λ rows. (rows.tree.entries.now ≡ table.now) × (rows.tapes.now ≡ tapes.now) × (rows.widths.now ≡ widths.now)) }
 {
-    let checked = tree::check_table(table);
-    let number = checked.number;
-    if number != 0 {
-        return number;
+    let tree = Tree::new(table)?;
+    let n = tree.nodes();
+    if separation_wrong(separation) {
+        return Err(Refusal::Separation);
     }
-    if separation < 1 || 1024 < separation {
-        return 6;
-    }
-    let n = table.len() / 2;
     if tapes.len() < 2 * n {
-        return 13;
+        return Err(Refusal::TapeNumbers);
     }
     if distance::half_widths_wrong(widths, n) {
-        return 17;
+        return Err(Refusal::HalfWidths);
     }
     if out.len() < BLOCK_BYTES * blocks_for(n) {
-        return 7;
+        return Err(Refusal::OutputRoom);
     }
-    0
+    Ok(Rows {
+        tree,
+        tapes,
+        widths,
+    })
 }
 
 // Writes the file of a sheet that is accepted, and says how many bytes it has.
-fn write_blocks(
-    table: &[u16],
-    separation: u16,
-    tapes: &[u16],
-    widths: &[u16],
-    out: &mut [u8],
-) -> usize
-    requires table_value { table_number table.now ≡ 0 }
-    requires table_in_bounds { (2 * nodes table.now ≤ length tapes.now) × (nodes table.now ≤ length widths.now) }
-    requires widths_in_bounds { length (sheet_file table.now separation tapes.now widths.now) ≤ length out.old }
-    ensures { FileWritten table.now separation tapes.now widths.now out.old result out.new }
+fn write_blocks(rows: Rows<'_>, separation: u16, out: &mut [u8]) -> usize
+    requires { length (file_of_rows rows separation) ≤ length out.old }
+    ensures { FileWritten rows.entry.tree.entries.now separation rows.entry.tapes.now rows.entry.widths.now out.old result out.new }
 {
-    let n = table.len() / 2;
+    let n = rows.tree.nodes();
     write_header(out, n, separation);
     let mut at = first_row();
     while at.node < n {
         let start = BLOCK_BYTES * at.block;
-        at = write_block(&mut out[start..], at, n, table, tapes, widths);
+        at = write_block(&mut out[start..], at, rows);
     }
     BLOCK_BYTES * blocks_for(n)
 }
 
-// Writes a sheet. Where it is accepted, its file stands at the start of `out`, and bytes past it are untouched; entries of `tapes` past
-// two a node, and of `widths` past one, are not looked at. A refusal changes nothing.
+// Writes a sheet, and says how many bytes its file has. Where it is accepted, the file stands at the start of `out`, and bytes past it are
+// untouched; entries of `tapes` past two a node, and of `widths` past one, are not looked at. A refusal changes nothing.
 pub fn write_sheet(
     table: &[u16],
     separation: u16,
     tapes: &[u16],
     widths: &[u16],
     out: &mut [u8],
-) -> Written
-    ensures { SheetWritten table.now separation tapes.now widths.now out.old result out.new }
+) -> Result<u16, Refusal>
+    ensures { SheetWritten table.now separation tapes.now widths.now out.old (answer_of result) out.new }
 {
-    let number = write_number(table, separation, tapes, widths, out);
-    if number != 0 {
-        return Written { number, bytes: 0 };
-    }
-    let bytes = write_blocks(table, separation, tapes, widths, out) as u16;
-    Written { number: 0, bytes }
+    let rows = check(table, separation, tapes, widths, out)?;
+    Ok(write_blocks(rows, separation, out) as u16)
 }

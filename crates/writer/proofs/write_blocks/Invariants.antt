@@ -2,15 +2,15 @@
 -- before it are whole, and the output starts with them. Assumes nothing.
 use Rattle.std.proofs.Common.{◌≡◌, ◌-◌}
 use Rattle.refusal.specs.After.{overwrite}
-use Rattle.tree.specs.Table.{nodes}
 use Rattle.sheet.specs.Layout.{blocks_for}
 use Rattle.sheet.specs.Walk.{OnRow}
+use Rattle.writer.specs.Rows.{node_count}
 use Rattle.writer.proofs.Blocks.{front, Whole}
 use Rattle.writer.proofs.write_blocks.Given as goal
 
 abbrev pub invariant-loop-at : goal.invariant-loop-at
 invariant-loop-at l =
-    (OnRow l.at) × (Whole (nodes l.table) l.at.node) × (l.out ≡ overwrite (front (nodes l.table) l.separation l.table l.tapes l.widths (blocks_for l.at.node)) l.initial.out)
+    (OnRow l.at) × (Whole (node_count l.rows) l.at.node) × (l.out ≡ overwrite (front (node_count l.rows) l.separation l.rows.tree.entries.now l.rows.tapes.now l.rows.widths.now (blocks_for l.at.node)) l.initial.out)
 
 abbrev pub decreases-loop-at : goal.decreases-loop-at
-decreases-loop-at l = nodes l.table - l.at.node
+decreases-loop-at l = node_count l.rows - l.at.node

@@ -1,33 +1,34 @@
 -- `write_sheet` keeps its promise. Assumes nothing.
-use Rattle.std.proofs.Common.{◌≡◌, sym, ◌∙◌, arith}
-use Rattle.tree.specs.Table.{nodes}
+use Rattle.std.proofs.Common.{sym, arith}
+use Rattle.std.proofs.lemmas.Result.{err_from_is_err_and}
+use Rattle.refusal.proofs.Numbers.{number-nonzero}
 use Rattle.tree.proofs.Stands.{accepted-numbers}
 use Rattle.sheet.proofs.Written.{length-file}
-use Rattle.writer.specs.Write.{write_number}
+use Rattle.writer.specs.Rows.{node_count}
 use Rattle.writer.proofs.Answer.{taken, written-refused, written-accepted}
 use Rattle.writer.proofs.write_sheet.Goals as goal
 
-pub returns-then-number-ne0 : goal.returns-then-number-ne0
-returns-then-number-ne0 c =
+pub returns-in_err-rows : goal.returns-in_err-rows
+returns-in_err-rows c =
     let a = c.args in
-    written-refused a.table.now a.separation a.tapes.now a.widths.now a.out.now _ c.write_number-number.ensures c.if-number-ne0.true
+    let p = err_from_is_err_and c.from_residual.result c.from_residual.ensures.1 in
+    rw (p.1, p.2)
+    (written-refused a.table.now a.separation a.tapes.now a.widths.now a.out.now _ c.in_err-rows.ensures.number (number-nonzero _))
 
--- past the test of the number
-pub write_blocks-bytes-requires : goal.write_blocks-bytes-requires
-write_blocks-bytes-requires c =
-    let t = taken _ _ _ _ _ (sym c.write_number-number.ensures ∙ c.if-number-ne0.false) in
-    record { table_value = t.table-accepted; table_in_bounds = (t.tapes-room, t.half_widths-room); widths_in_bounds = t.out-room }
+pub write_blocks-requires : goal.write_blocks-requires
+write_blocks-requires c =
+    let same = c.in_ok-rows.ensures.same_slices in
+    rw (same.0, same.1, same.2) (taken _ _ _ _ _ (sym c.in_ok-rows.ensures.number)).out-room
 
-pub overflow_cast-bytes : goal.overflow_cast-bytes
-overflow_cast-bytes c =
-    let a = c.args in
-    let t = taken _ _ _ _ _ (sym c.write_number-number.ensures ∙ c.if-number-ne0.false) in
-    let few = (accepted-numbers a.table.now t.table-accepted).few in
-    omega (arith, c.write_blocks-bytes.ensures.count, length-file (nodes a.table.now) a.separation a.table.now a.tapes.now a.widths.now)
+pub overflow_cast-result : goal.overflow_cast-result
+overflow_cast-result c =
+    let rows = c.in_ok-rows.rows in
+    let few = (accepted-numbers rows.tree.entries.now rows.tree.well_formed).few in
+    omega (arith, c.write_blocks.ensures.count, length-file (node_count rows) c.args.separation rows.tree.entries.now rows.tapes.now rows.widths.now)
 
 pub returns : goal.returns
 returns c =
     let a = c.args in
-    let number-zero : write_number a.table.now a.separation a.tapes.now a.widths.now a.out.now ≡ 0 = sym c.write_number-number.ensures ∙ c.if-number-ne0.false in
-    let file = c.write_blocks-bytes.ensures in
-    written-accepted a.table.now a.separation a.tapes.now a.widths.now a.out.now _ _ number-zero file.count file.out-after
+    let same = c.in_ok-rows.ensures.same_slices in
+    let file = rw (same.0, same.1, same.2) at c.write_blocks.ensures in
+    written-accepted a.table.now a.separation a.tapes.now a.widths.now a.out.now _ _ (sym c.in_ok-rows.ensures.number) file.count file.out-after

@@ -11,10 +11,10 @@ unfolding close_block word_sum weighted_sum
 returns c =
     let sums = c.sums_of-sums.ensures in
     let block = c.args.block.now in
-    let last : c.wrapping_sub_u16.result ≡ closes ((word_sum weighted_place (word_at block) + weighted_sum (word_at block)) % word_limit) =
-    closes-left _ _ c.wrapping_sub_u16.ensures.value (omega arith) (omega arith)
-    ∙ ap closes (c.wrapping_add_u16-sum.ensures.value ∙ ap₂ (λ (p w : ℕ). (p + w) % word_limit) sums.plain sums.weighted)
+    let last : c.wrapping_neg.result ≡ closes ((word_sum weighted_place (word_at block) + weighted_sum (word_at block)) % word_limit) =
+    closes-left _ _ c.wrapping_neg.ensures (omega arith) (omega arith)
+    ∙ ap closes (ap₂ (λ (p w : ℕ). (p + w) % word_limit) sums.plain sums.weighted)
     in
-    stored_next block weighted_place (c.sums_of-sums.result.weighted ∷ []) (c.wrapping_sub_u16.result ∷ []) _ _ closing_place refl c.put.ensures
+    stored_next block weighted_place (c.sums_of-sums.result.weighted ∷ []) (c.wrapping_neg.result ∷ []) _ _ closing_place refl c.put.ensures
     c.put-2.ensures
     ∙ ap₂ (λ (w l : ℕ). store_words block weighted_place (w ∷ l ∷ [])) sums.weighted last

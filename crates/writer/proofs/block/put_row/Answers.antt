@@ -9,9 +9,9 @@ pub returns : goal.returns
 unfolding row
 returns c =
     let a = c.args in
-    let of-table = pair_of a.table.now a.at.node in
-    let of-tapes = pair_of a.tapes.now a.at.node in
-    let of-widths = get_or a.widths.now a.at.node 0 ∷ [] in
+    let of-table = pair_of a.rows.tree.entries.now a.at.node in
+    let of-tapes = pair_of a.rows.tapes.now a.at.node in
+    let of-widths = get_or a.rows.widths.now a.at.node 0 ∷ [] in
     let pairs = stored_next a.block.now a.at.word of-table of-tapes _ _ (a.at.word + 2) refl c.put_pair.ensures c.put_pair-2.ensures in
     rw (← c.requires.on_row.0.word)
     (stored_next a.block.now a.at.word (of-table ++ of-tapes) of-widths _ _ (a.at.word + 4) refl pairs c.put.ensures)

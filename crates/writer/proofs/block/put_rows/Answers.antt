@@ -5,6 +5,7 @@ use Rattle.blocks.specs.Below.{joined}
 use Rattle.sheet.specs.Layout.{first_word, block_rows, row_word, node_word}
 use Rattle.sheet.specs.File.{row}
 use Rattle.writer.specs.Steps.{store_words, rows_of, rows_from}
+use Rattle.writer.specs.Rows.{node_count}
 use Rattle.writer.proofs.Stored.{store_none, length-stored}
 use Rattle.writer.proofs.Rows.{rows_more, row_word_lem, one_further}
 use Rattle.writer.proofs.block.put_rows.Goals as goal
@@ -34,7 +35,7 @@ pub put_row-requires : goal.put_row-requires
 put_row-requires c =
     let inv = c.loop-at.invariant in
     let same : length c.loop-at.block ≡ length c.args.block.now = ap length inv.3 ∙ length-stored _ first_word _ in
-    record { on_row = (inv.0, omega arith); node_in_bounds = (omega arith, omega arith, omega arith) }
+    record { on_row = (inv.0, omega arith); node = omega arith }
 
 pub next_row-at-requires : goal.next_row-at-requires
 next_row-at-requires c = (c.loop-at.invariant.0, omega (arith, c.requires.begun))
@@ -48,7 +49,7 @@ loop-at-preserved c =
     let begins = c.requires.begun.first in
     let next = c.next_row-at.ensures in
     let inside : node_word c.loop-at.at.node < row_word (block_rows - 1) = rw (← inv.0.word) (omega arith) in
-    let one = one_further _ _ _ _ begins inv.1 inv.2 c.loop-at-test.true inside in (
+    let one = one_further _ _ _ _ begins inv.1 inv.2 (omega arith) inside in (
       next.1,
       omega arith,
       rw next.0 one,
@@ -59,7 +60,7 @@ pub put_row-requires-2 : goal.put_row-requires-2
 put_row-requires-2 c =
     let inv = c.loop-at.invariant in
     let same : length c.loop-at.block ≡ length c.args.block.now = ap length inv.3 ∙ length-stored _ first_word _ in
-    record { on_row = (inv.0, omega arith); node_in_bounds = (omega arith, omega arith, omega arith) }
+    record { on_row = (inv.0, omega arith); node = omega arith }
 
 pub next_row-requires : goal.next_row-requires
 next_row-requires c = (c.loop-at.invariant.0, omega (arith, c.requires.begun))
@@ -73,7 +74,7 @@ returns c =
     let begins = c.requires.begun.first in
     let next = c.next_row.ensures in
     -- the loop is left at the block's last row
-    let ended : c.loop-at.at.node + 1 ≡ c.args.from.node + rows_of c.args.nodes c.args.from =
+    let ended : c.loop-at.at.node + 1 ≡ c.args.from.node + rows_of (node_count c.args.rows) c.args.from =
     grind (arith, row_word_lem _ _ _ _ begins inv.1 inv.2, inv.0.word, c.loop-at-test.branch)
     in
     record {
