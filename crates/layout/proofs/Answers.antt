@@ -1,7 +1,6 @@
 -- The answers of the layout: its number, what a refusal gives, and what an acceptance gives. Assumes nothing.
 use mathlib.Core.Path.{◌≡◌, refl, sym, ap, ap₂, ◌∙◌, subst}
-use mathlib.Core.Logic.{◌⊎◌, inl, inr}
-use mathlib.Core.Bool.{Bool, true, false, cond, ◌||◌}
+use mathlib.Core.Bool.{Bool, false, cond, ◌||◌}
 use mathlib.Core.List.{List, ◌++◌}
 use Prim.Native.Nat.{ℕ, ◌+◌, ◌*◌, ◌^◌, ◌≤◌, ◌<◌}
 use native.Mathlib.Omega.{arith}
@@ -10,10 +9,15 @@ use lib.IntN.{ℤ, pos}
 use lib.Signed.{mag}
 use lib.ListN.{length, take, drop, replicate, length-replicate, length-map}
 use lib.Seq.{length-take-le}
-use borrow.Author.Tests.{ltb-false, lt-ltb, le-ltb}
+use borrow.Author.Tests.{ltb-false, le-ltb}
+use Rattle.std.specs.Prelude.{Result, Err}
+use Rattle.std.specs.Result.{IsErrAnd}
+use Rattle.std.proofs.lemmas.Result.{err_from_is_err_and}
+use Rattle.refusal.specs.declared.Refusal.{Refusal}
 use Rattle.refusal.specs.First.{first}
-use Rattle.refusal.specs.After.{overwrite, after}
+use Rattle.refusal.specs.Number.{number}
 use Rattle.refusal.proofs.After.{granted-accepted, granted-refused, after-accepted, after-refused, overwrite-split, overwrite-front}
+use Rattle.refusal.proofs.Numbers.{number-nonzero}
 use Rattle.refusal.proofs.Laws.{first-refused, first-passed, first_past, none_first, first-none}
 use Rattle.distance.specs.Needed.{needed, bad_separation, bad_half_widths}
 use Rattle.distance.proofs.Separation.{good-separation}
@@ -23,7 +27,7 @@ use Rattle.tree.specs.Table.{nodes}
 use Rattle.tree.specs.Levels.{level, neighbours}
 use Rattle.tree.specs.WellFormed.{table_number}
 use Rattle.tree.proofs.Number.{table-refused, table-passed, table_said}
-use Rattle.refusal.proofs.Truth.{or-false-left, or-false-right, or-false, or-true}
+use Rattle.refusal.proofs.Truth.{or-false-left, or-false-right, or-false}
 use Rattle.rule.specs.Join.{Spacing, spaced}
 use Rattle.rule.specs.Record.{flat}
 use Rattle.rule.specs.Result.{Slices, Answer, short_results, short_work, layout_number, place, places_of, levels_of, least_of, greatest_of, LaidOut}
@@ -31,7 +35,8 @@ use Rattle.rule.proofs.Flat.{length-flat}
 use Rattle.rule.proofs.Promises.{neighbours-count}
 use Rattle.rule.proofs.Own.{places_agree}
 use Rattle.level_order.specs.Numbered.{Accepted}
-use Rattle.layout.specs.Operation.{slices, answer, distance_conditions, room_conditions, Taken}
+use Rattle.layout.specs.declared.Drawn.{Drawn}
+use Rattle.layout.specs.Operation.{slices, answer, answer_of, distance_conditions, room_conditions, Taken}
 use Rattle.second_walk.specs.SecondWalk.{Settled}
 use Rattle.second_walk.proofs.EntryForEach.{length-up_to}
 use Rattle.second_walk.proofs.Extreme.{least-small, greatest-small}
@@ -39,28 +44,14 @@ use Rattle.second_walk.proofs.Extreme.{least-small, greatest-small}
 -- ---- the tests
 
 module _ (t : List ℕ) (s : Slices) where
-  pub results_short : (length s.places < nodes t) ⊎ ((length s.levels < nodes t) ⊎ (length s.the_record < 2 * nodes t)) → short_results t s ≡ true
-  unfolding short_results
-  results_short (inl h) = or-true (inl (or-true (inl (lt-ltb (length s.places) (nodes t) h))))
-  results_short (inr (inl h)) = or-true (inl (or-true {a = ltb (length s.places) (nodes t)} (inr (lt-ltb (length s.levels) (nodes t) h))))
-  results_short (inr (inr h)) =
-      or-true {a = ltb (length s.places) (nodes t) || ltb (length s.levels) (nodes t)} (inr (lt-ltb (length s.the_record) (2 * nodes t) h))
-
-  pub results_long : nodes t ≤ length s.places → nodes t ≤ length s.levels → 2 * nodes t ≤ length s.the_record → short_results t s ≡ false
-  unfolding short_results
-  results_long h i j = or-false (or-false (le-ltb (length s.places) (nodes t) h) (le-ltb (length s.levels) (nodes t) i)) (le-ltb (length s.the_record) (2 * nodes t) j)
-
-  pub work_short : length s.work < 16 * nodes t → short_work t s ≡ true
-  unfolding short_work
-  work_short h = lt-ltb (length s.work) (16 * nodes t) h
-
-  pub work-long : 16 * nodes t ≤ length s.work → short_work t s ≡ false
-  unfolding short_work
-  work-long h = le-ltb (length s.work) (16 * nodes t) h
-
   pub room-enough : nodes t ≤ length s.places → nodes t ≤ length s.levels → 2 * nodes t ≤ length s.the_record → 16 * nodes t ≤ length s.work
       → first (room_conditions t s) ≡ 0
-  room-enough h i j k = none_first (room_conditions t s) (results_long h i j, (work-long k, tt))
+  unfolding short_results short_work
+  room-enough h i j k =
+      none_first (room_conditions t s) (
+        or-false (or-false (le-ltb (length s.places) (nodes t) h) (le-ltb (length s.levels) (nodes t) i)) (le-ltb (length s.the_record) (2 * nodes t) j),
+        (le-ltb (length s.work) (16 * nodes t) k, tt),
+      )
 
 -- with a good separation the half-widths decide
 pub by-widths : (t : List ℕ) (D : ℕ) (hs : List ℕ) → bad_separation D ≡ false → (b : Bool) → bad_half_widths (nodes t) hs ≡ b → first (distance_conditions t D hs) ≡ cond b 17 0
@@ -149,6 +140,14 @@ laid-refused k N t s d =
       work = rw after-refused;
     }
 
+-- so does a refusal that is returned, and the exit of a `?`
+module _ {k : ℕ} {N : Spacing} {t : List ℕ} {s : Slices} (e : Refusal) (same : number e ≡ k) where
+  pub laid-err : LaidOut k N t s (answer_of (Err e)) s
+  laid-err = laid_by same (laid-refused (number e) N t s (number-nonzero e))
+
+  pub laid-exit : (r : Result Drawn Refusal) → IsErrAnd r (λ d. d ≡ e) → LaidOut k N t s (answer_of r) s
+  laid-exit r h = let exit = err_from_is_err_and r h in rw (exit.1, exit.2) laid-err
+
 module _ {t : List ℕ} {D : ℕ} {hs : List ℕ} {extra : ℕ} {s : Slices} (T : Taken t D hs extra s) where
   -- what is drawn by the half-widths of the nodes alone
   pub first_ones : Accepted t D (take (nodes t) hs)
@@ -182,20 +181,14 @@ module _ {t : List ℕ} {D : ℕ} {hs : List ℕ} {extra : ℕ} {s : Slices} (T 
   room : length (flat (neighbours t)) ≤ 2 * nodes t
   room = omega (arith, length-flat (neighbours t), neighbours-count t T.table)
 
-  work-after : (ws : List ℤ) → drop (16 * nodes t) ws ≡ drop (16 * nodes t) s.work
-      → overwrite (replicate (16 * nodes t) (pos 0)) ws ≡ after 0 (replicate (16 * nodes t) (pos 0)) s.work
-  work-after ws e =
-      let cleared = length-replicate (16 * nodes t) (pos 0) in
-      rw (after-accepted, overwrite-split (16 * nodes t) (replicate (16 * nodes t) (pos 0)) ws cleared, overwrite-split (16 * nodes t) (replicate (16 * nodes t) (pos 0)) s.work cleared, e)
-
-  -- the second walk over the fronts of the slices, and then the working slice cleared
-  pub laid-accepted : (ps : List ℤ) (ls rs : List ℕ) (ws ws' wend : List ℤ) (k : ℕ) (low high : ℤ) (many : ℕ)
+  -- the second walk over the fronts of the slices, and then the front of the working slice cleared
+  pub laid-accepted : (ps : List ℤ) (ls rs : List ℕ) (ws ws' cleared : List ℤ) (k : ℕ) (low high : ℤ) (many : ℕ)
       → Settled t (spaced (needed D (take (nodes t) hs)) extra) ps ls (take (2 * nodes t) s.the_record) rs ws ws' k low high many
       → drop (16 * nodes t) ws ≡ drop (16 * nodes t) s.work
-      → wend ≡ overwrite (replicate (16 * nodes t) (pos 0)) ws'
+      → cleared ≡ replicate (16 * nodes t) (pos 0)
       → LaidOut 0 N t s (answer 0 (nodes t) k low high many)
-      (slices (ps ++ drop (nodes t) s.places) (ls ++ drop (nodes t) s.levels) (rs ++ drop (2 * nodes t) s.the_record) wend)
-  laid-accepted ps ls rs ws ws' wend k low high many S e f =
+      (slices (ps ++ drop (nodes t) s.places) (ls ++ drop (nodes t) s.levels) (rs ++ drop (2 * nodes t) s.the_record) (cleared ++ drop (16 * nodes t) ws'))
+  laid-accepted ps ls rs ws ws' cleared k low high many S e f =
       record {
         number = refl;
         nodes = rw granted-accepted;
@@ -206,5 +199,5 @@ module _ {t : List ℕ} {D : ℕ} {hs : List ℕ} {extra : ℕ} {s : Slices} (T 
         places = rw (S.places, same-places, after-accepted, overwrite-split (nodes t) (places_of N t) s.places (length-places N t));
         levels = rw (S.levels, after-accepted, overwrite-split (nodes t) (levels_of t) s.levels (length-levels t));
         the_record = rw (S.measured, after-accepted) (overwrite-front (2 * nodes t) (flat (neighbours t)) s.the_record room T.measured);
-        work = f ∙ work-after ws' (S.rest ∙ e);
+        work = rw (f, S.rest, e, after-accepted, overwrite-split (16 * nodes t) (replicate (16 * nodes t) (pos 0)) s.work (length-replicate (16 * nodes t) (pos 0)));
       }

@@ -24,11 +24,11 @@ use Rattle.tree.proofs.Counting.{All, below_or_not, all_both}
 use Rattle.tree.proofs.Tests.{all-at}
 use Rattle.rule.specs.Join.{Spacing, spaced}
 use Rattle.rule.specs.Record.{flat, pair_count}
-use Rattle.rule.specs.Result.{Slices, Answer, LaidOut, Layout, place, places_of, levels_of, least_of}
+use Rattle.rule.specs.Result.{Slices, Answer, LaidOut, Layout, place, places_of, levels_of}
 use Rattle.rule.proofs.Flat.{length-flat, pair_at, flat-at}
 use Rattle.rule.proofs.PairCounts.{pair_index}
 use Rattle.rule.proofs.Promises.{neighbours-count, neighbours-apart, shapes_equal}
-use Rattle.rule.proofs.Signed.{parts_add, parts_le, at_most}
+use Rattle.rule.proofs.Signed.{raised}
 use Rattle.rule.proofs.Extremes.{least-bounds, greatest-bounds, least-met, greatest-met, width_bound, small-place}
 use Rattle.rule.proofs.ReadingOrder.{LeftBy, ReadBefore, not_itself, neighbours-read}
 use Rattle.rule.proofs.SideBySide.{SideBySide, beside-told, neighbours-beside, beside-neighbours}
@@ -203,19 +203,11 @@ module _ {t : List ℕ} {D : ℕ} {hs : List ℕ} {extra : ℕ} {s : Slices} {a 
   pub width-returned : a.greatest ≤ℤ (a.least +ℤ pos ((nodes t - 1) * (D + 2 * widest (nodes t) hs) + (nodes t - 1) / 2 * extra))
   width-returned =
       let W = D + 2 * widest (nodes t) hs in
-      let more : nodes t - 2 ≤ nodes t - 1 = omega arith in
+      let fewer : nodes t - 2 ≤ nodes t - 1 = omega arith in
       let halves : (nodes t - 2) / 2 ≤ (nodes t - 1) / 2 = omega arith in
-      let least = least_of (places_of N t) in
       rw (L.greatest, L.least)
-      (parts_le _ _
-      (omega (
-        arith,
-        at_most _ _ (width_bound N t accepted W (needed-at_most hs D (nodes t))),
-        mul-le-mul_right W more,
-        mul-le-mul_right extra halves,
-        parts_add least (pos ((nodes t - 2) * W + (nodes t - 2) / 2 * extra)),
-        parts_add least (pos ((nodes t - 1) * W + (nodes t - 1) / 2 * extra)),
-      )))
+      (raised _ _ _ ((nodes t - 1) * W + (nodes t - 1) / 2 * extra) (width_bound N t accepted W (needed-at_most hs D (nodes t)))
+      (omega (arith, mul-le-mul_right W fewer, mul-le-mul_right extra halves)))
 
 -- ---- two calls of one separation and one extra space, or one call taken twice
 

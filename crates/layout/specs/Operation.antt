@@ -1,11 +1,14 @@
 -- The operation's answer and its slices, as the written result has them, and the steps that every layout takes: conditions 6 and 17, conditions
 -- 7 and 8, and the drawing of what is not refused.
-use Rattle.std.specs.Prelude.{ℕ, ◌*◌, ◌≤◌, ◌≡◌, List, [], ◌∷◌, ℤ, length}
+use Rattle.std.specs.Prelude.{ℕ, ◌*◌, ◌≤◌, ◌≡◌, List, [], ◌∷◌, ℤ, pos, length, Result, Ok, Err}
 use Rattle.refusal.specs.First.{Condition, ◌⇐◌}
+use Rattle.refusal.specs.Number.{number}
+use Rattle.refusal.specs.declared.Refusal.{Refusal}
 use Rattle.distance.specs.Needed.{widest, bad_separation, bad_half_widths}
 use Rattle.tree.specs.Table.{nodes}
 use Rattle.tree.specs.WellFormed.{table_number}
 use Rattle.rule.specs.Result.{Slices, Answer, short_results, short_work}
+use Rattle.layout.specs.declared.Drawn.{Drawn}
 
 abbrev pub slices : List ℤ → List ℕ → List ℕ → List ℤ → Slices
 slices places levels measured work = record { places = places; levels = levels; the_record = measured; work = work }
@@ -13,6 +16,11 @@ slices places levels measured work = record { places = places; levels = levels; 
 abbrev pub answer : ℕ → ℕ → ℕ → ℤ → ℤ → ℕ → Answer
 answer number nodes levels least greatest pairs =
     record { number = number; nodes = nodes; levels = levels; least = least; greatest = greatest; pairs = pairs }
+
+-- what a call answers
+abbrev pub answer_of : Result Drawn Refusal → Answer
+answer_of (Ok drawn) = answer 0 drawn.nodes drawn.levels drawn.least drawn.greatest drawn.pairs
+answer_of (Err refusal) = answer (number refusal) 0 0 (pos 0) (pos 0) 0
 
 -- what can be wrong with the distances of a table's nodes, and with the slices that are lent
 abbrev pub distance_conditions : List ℕ → ℕ → List ℕ → List Condition

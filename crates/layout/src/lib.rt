@@ -1,19 +1,21 @@
 // The linear engine: where the nodes of a tree table stand, in time proportional to their number.
 #![tactic(auto)]
 
-ghost use Rattle.std.specs.Prelude.{◌≡◌, pos};
+ghost use Rattle.std.specs.Prelude.{◌≡◌};
 ghost use Rattle.refusal.specs.First.{first};
+ghost use Rattle.refusal.specs.Number.{number_of};
 ghost use Rattle.distance.specs.Needed.{needed};
 ghost use Rattle.tree.specs.WellFormed.{table_number};
 ghost use Rattle.rule.specs.Join.{spaced};
-ghost use Rattle.rule.specs.Result.{Layout, LaidOut, layout_number};
-ghost use Rattle.layout.specs.Operation.{slices, answer, distance_conditions, room_conditions, Taken};
+ghost use Rattle.rule.specs.Result.{Layout, LaidOut};
+ghost use Rattle.layout.specs.Operation.{slices, answer_of, distance_conditions, room_conditions, Taken};
 
-mod clear;
+use level_order::spaced_tree::SpacedTree;
+use refusal::Refusal;
+use tree::Tree;
 
 #[derive(Clone, Copy)]
 pub struct Drawn {
-    pub number: u16,
     pub nodes: u16,
     pub levels: u16,
     pub least: i32,
@@ -21,61 +23,50 @@ pub struct Drawn {
     pub pairs: u16,
 }
 
-// 6 or 17, the first that holds, or 0.
-pub fn distance_number(table: &[u16], separation: u16, widths: &[u16]) -> u16
-    ensures { result ≡ first (distance_conditions table.now separation widths.now) }
+// 6 or 17, the first that holds.
+#[tactic(auto, unfolding(distance::specs::Needed::bad_separation))]
+pub fn check_distances(table: &[u16], separation: u16, widths: &[u16]) -> Result<(), Refusal>
+    ensures { number_of result ≡ first (distance_conditions table.now separation widths.now) }
 {
     if separation < 1 || 1024 < separation {
-        return 6;
+        return Err(Refusal::Separation);
     }
     let n = table.len() / 2;
     if distance::half_widths_wrong(widths, n) {
-        return 17;
+        return Err(Refusal::HalfWidths);
     }
-    0
+    Ok(())
 }
 
-// 7 or 8, the first that holds, or 0.
-pub fn room_number(
+// 7 or 8, the first that holds.
+#[tactic(auto, unfolding(rule::specs::Result::short_results, rule::specs::Result::short_work))]
+pub fn check_room(
     table: &[u16],
     places: &[i32],
     levels: &[u16],
     measured: &[u16],
     work: &[i32],
-) -> u16
+) -> Result<(), Refusal>
     requires { table_number table.now ≡ 0 }
-    ensures { result ≡ first (room_conditions table.now (slices places.now levels.now measured.now work.now)) }
+    ensures { number_of result ≡ first (room_conditions table.now (slices places.now levels.now measured.now work.now)) }
 {
     let n = table.len() / 2;
     if places.len() < n || levels.len() < n || measured.len() < 2 * n {
-        return 7;
+        return Err(Refusal::OutputRoom);
     }
     if work.len() < 16 * n {
-        return 8;
+        return Err(Refusal::WorkingRoom);
     }
-    0
-}
-
-// What a refusal gives.
-pub fn refusal(number: u16) -> Drawn
-    ensures { answer result.number result.nodes result.levels result.least result.greatest result.pairs ≡ answer number 0 0 (pos 0) (pos 0) 0 }
-{
-    Drawn {
-        number,
-        nodes: 0,
-        levels: 0,
-        least: 0,
-        greatest: 0,
-        pairs: 0,
-    }
+    Ok(())
 }
 
 // Draws what is not refused; `extra` is added where a node is significant. The half-widths past n are not looked at, and the first 16
-// working entries for each node are 0 afterwards.
-pub fn draw(
-    table: &[u16],
+// working entries for each node are 0 afterwards. The four lent slices are parameters of their own: a struct that held them would have to say
+// in each contract that it keeps them.
+pub fn draw<'a>(
+    table: &'a [u16],
     separation: u16,
-    widths: &[u16],
+    widths: &'a [u16],
     extra: u16,
     places: &mut [i32],
     levels: &mut [u16],
@@ -83,26 +74,27 @@ pub fn draw(
     work: &mut [i32],
 ) -> Drawn
     requires { Taken table.now separation widths.now extra (slices places.old levels.old measured.old work.old) }
-    ensures { LaidOut 0 (spaced (needed separation widths.now) extra) table.now (slices places.old levels.old measured.old work.old) (answer result.number result.nodes result.levels result.least result.greatest result.pairs) (slices places.new levels.new measured.new work.new) }
+    ensures { LaidOut 0 (spaced (needed separation widths.now) extra) table.now (slices places.old levels.old measured.old work.old) (answer_of (Ok result)) (slices places.new levels.new measured.new work.new) }
 {
     let n = table.len() / 2;
-    let entries = 2 * n;
-    let own = &widths[..n];
-    level_order::number(table, separation, own, work);
-    families::families(table, separation, own, extra, work);
-    let settled = second_walk::second_walk(
+    let table = Tree { entries: table };
+    let tree = SpacedTree {
         table,
         separation,
-        own,
+        widths: &widths[..n],
         extra,
+    };
+    level_order::number(&tree, work);
+    families::families(&tree, work);
+    let settled = second_walk::second_walk(
+        &tree,
         &mut places[..n],
         &mut levels[..n],
-        &mut measured[..entries],
+        &mut measured[..2 * n],
         work,
     );
-    clear::clear(work, 16 * n);
+    work[..16 * n].fill(0);
     Drawn {
-        number: 0,
         nodes: n as u16,
         levels: settled.levels,
         least: settled.least,
@@ -111,32 +103,8 @@ pub fn draw(
     }
 }
 
-// The number of the first condition that holds, or 0.
-fn layout_number(
-    table: &[u16],
-    separation: u16,
-    widths: &[u16],
-    places: &[i32],
-    levels: &[u16],
-    measured: &[u16],
-    work: &[i32],
-) -> u16
-    ensures { result ≡ layout_number table.now separation widths.now (slices places.now levels.now measured.now work.now) }
-{
-    let checked = tree::check_table(table);
-    let number = checked.number;
-    if number != 0 {
-        return number;
-    }
-    let apart = distance_number(table, separation, widths);
-    if apart != 0 {
-        return apart;
-    }
-    room_number(table, places, levels, measured, work)
-}
-
-// Writes places and levels by node number, and the pairs of neighbours as the record. `widths` are the nodes' half-widths. A refusal gives its
-// number and changes nothing.
+// Writes places and levels by node number, and the pairs of neighbours as the record. `widths` are the nodes' half-widths. A refusal
+// changes nothing.
 pub fn layout(
     table: &[u16],
     separation: u16,
@@ -145,12 +113,11 @@ pub fn layout(
     levels: &mut [u16],
     measured: &mut [u16],
     work: &mut [i32],
-) -> Drawn
-    ensures { Layout table.now separation widths.now (slices places.old levels.old measured.old work.old) (answer result.number result.nodes result.levels result.least result.greatest result.pairs) (slices places.new levels.new measured.new work.new) }
+) -> Result<Drawn, Refusal>
+    ensures { Layout table.now separation widths.now (slices places.old levels.old measured.old work.old) (answer_of result) (slices places.new levels.new measured.new work.new) }
 {
-    let refused = layout_number(table, separation, widths, places, levels, measured, work);
-    if refused != 0 {
-        return refusal(refused);
-    }
-    draw(table, separation, widths, 0, places, levels, measured, work)
+    tree::check_table(table)?;
+    check_distances(table, separation, widths)?;
+    check_room(table, places, levels, measured, work)?;
+    Ok(draw(table, separation, widths, 0, places, levels, measured, work))
 }
