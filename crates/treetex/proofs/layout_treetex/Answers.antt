@@ -1,75 +1,51 @@
 -- `treetex::layout_treetex` meets its contract. Assumes nothing.
-use mathlib.Core.Path.{◌≡◌, sym, ◌∙◌, subst₂}
-use mathlib.Core.List.{List}
-use Prim.Native.Nat.{ℕ}
-use Rattle.distance.specs.Needed.{needed}
-use Rattle.rule.specs.Join.{Spacing, spaced}
-use Rattle.rule.specs.Result.{Slices, Answer, LaidOut}
-use Rattle.layout.specs.Operation.{slices}
-use Rattle.layout.proofs.Answers.{laid_by, laid-refused}
-use Rattle.treetex.specs.TreeTeX.{treetex_number}
-use Rattle.treetex.proofs.Answers.{accepted-call}
+use Rattle.std.proofs.Common.{ℕ, List, Bool, ◌≡◌, sym, ap, ◌∙◌, arith}
+use Rattle.refusal.specs.declared.Refusal.TheVariants.{ThreeChildren, ExtraSpace}
+use Rattle.refusal.proofs.Numbers.{number-nonzero}
+use Rattle.layout.proofs.Answers.{nothing-wrong, laid_by, laid-err, laid-exit}
+use Rattle.treetex.specs.TreeTeX.{three_children}
+use Rattle.treetex.proofs.Answers.{number-table, number_23, number-distance, number_wide, number-room, not-too-wide}
 use Rattle.treetex.proofs.layout_treetex.Goals as goal
-use Rattle.treetex.proofs.layout_treetex.Lts as lts
-use Rattle.treetex.proofs.layout_treetex.Reads as reads
-use Rattle.treetex.proofs.layout_treetex.Tie as tie
 
-abbrev Start : Type 0
-Start = lts.Start tie.the-claims reads.Pre reads.Post
+-- what is told of the tree holds of the table
+told : {tree table : List ℕ} {b : Bool} → tree ≡ table → b ≡ three_children tree → three_children table ≡ b
+told same h = ap three_children (sym same) ∙ sym h
 
-abbrev After-treetex_number : Type 0
-After-treetex_number = lts.After-treetex_number tie.the-claims reads.Pre reads.Post
+pub returns-in_err-tree : goal.returns-in_err-tree
+returns-in_err-tree c =
+    let e = c.in_err-tree.field-0.0 in
+    laid-exit e (number-table _ _ _ _ _ _ c.in_err-tree.ensures.number (number-nonzero e)) _ c.from_residual.ensures.1
 
-abbrev Else1 : Type 0
-Else1 = lts.Else1 tie.the-claims reads.Pre reads.Post
+pub returns-then-three_children : goal.returns-then-three_children
+returns-then-three_children c =
+    laid-err ThreeChildren (number_23 _ _ _ _ _ (sym c.in_ok-tree.ensures.number) (told c.in_ok-tree.ensures.same_table c.if-three_children.ensures))
 
-module _ (s : Start) where
-  abbrev t : List ℕ
-  t = s.args.table.now
+pub returns-in_err-check_distances : goal.returns-in_err-check_distances
+returns-in_err-check_distances c =
+    let e = c.in_err-check_distances.field-0.0 in
+    let two = told c.in_ok-tree.ensures.same_table c.if-three_children.ensures in
+    laid-exit e (number-distance _ _ _ _ _ (sym c.in_ok-tree.ensures.number) two _ c.in_err-check_distances.ensures (number-nonzero e)) _
+    c.from_residual-in_err-check_distances.ensures.1
 
-  abbrev D : ℕ
-  D = s.args.separation
+pub returns-then-extra-gt-MOST_EXTRA : goal.returns-then-extra-gt-MOST_EXTRA
+returns-then-extra-gt-MOST_EXTRA c =
+    let two = told c.in_ok-tree.ensures.same_table c.if-three_children.ensures in
+    laid-err ExtraSpace (number_wide _ _ _ _ _ (sym c.in_ok-tree.ensures.number) two (sym c.in_ok-check_distances.ensures) (omega arith))
 
-  abbrev hs : List ℕ
-  hs = s.args.widths.now
-
-  abbrev extra : ℕ
-  extra = s.args.extra
-
-  abbrev lent : Slices
-  lent = slices s.args.places.now s.args.levels.now s.args.measured.now s.args.work.now
-
--- the conditions are tried
-module _ (c : After-treetex_number) where
-  abbrev start : Start
-  start = c.before.before.before.before.before
-
-  abbrev spacing : Spacing
-  spacing = spaced (needed (D start) (hs start)) (extra start)
-
-  number_is : c.treetex_number-refused.result ≡ treetex_number (t start) (D start) (hs start) (extra start) (lent start)
-  number_is = c.treetex_number-refused.ensures
-
-pub returns-then-refused-ne0 : goal.returns-then-refused-ne0
-returns-then-refused-ne0 c =
-    let n = c.before.before.before in
-    let s = start n in
-    subst₂ (λ (k : ℕ) (a : Answer). LaidOut k (spacing n) (t s) (lent s) a (lent s)) (number_is n) (sym c.refusal.ensures)
-    (laid-refused n.treetex_number-refused.result (spacing n) (t s) (lent s) c.if-refused-ne0.true)
-
--- none holds
-module _ (p : Else1) where
-  zero_number : treetex_number (t (start p.before)) (D (start p.before)) (hs (start p.before)) (extra (start p.before)) (lent (start p.before)) ≡ 0
-  zero_number = sym (number_is p.before) ∙ p.if-refused-ne0.false
+pub returns-in_err-check_room : goal.returns-in_err-check_room
+returns-in_err-check_room c =
+    let two = told c.in_ok-tree.ensures.same_table c.if-three_children.ensures in
+    let little = not-too-wide c.args.extra (omega arith) in
+    let number = number-room _ _ _ _ _ (sym c.in_ok-tree.ensures.number) two (sym c.in_ok-check_distances.ensures) little in
+    laid-exit c.in_err-check_room.field-0.0 (c.in_err-check_room.ensures ∙ number) _ c.from_residual-in_err-check_room.ensures.1
 
 pub draw-requires : goal.draw-requires
 draw-requires c =
-    let p = c.before.before.before.before.before in
-    let s = start p.before in
-    (accepted-call (t s) (D s) (hs s) (extra s) (lent s) (zero_number p)).taken
+    nothing-wrong _ _ _ _ _ (sym c.in_ok-tree.ensures.number) (sym c.in_ok-check_distances.ensures) (omega arith) (sym c.in_ok-check_room.ensures)
 
 pub returns : goal.returns
 returns c =
-    let d = c.before.before.before.before.before.before.before in
-    let p = d.before.before.before.before.before in
-    laid_by (sym (zero_number p)) d.draw.ensures
+    let two = told c.in_ok-tree.ensures.same_table c.if-three_children.ensures in
+    let little = not-too-wide c.args.extra (omega arith) in
+    let number = number-room _ _ _ _ _ (sym c.in_ok-tree.ensures.number) two (sym c.in_ok-check_distances.ensures) little in
+    laid_by (c.in_ok-check_room.ensures ∙ number) c.draw.ensures
