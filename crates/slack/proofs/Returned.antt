@@ -23,7 +23,7 @@ use Rattle.tree.proofs.Tests.{member-count, count-member}
 use Rattle.rule.specs.Join.{Spacing, spaced}
 use Rattle.rule.specs.Rule.{significant_at, extra_at}
 use Rattle.rule.specs.Result.{Slices, Answer, Layout}
-use Rattle.rule.proofs.Signed.{parts_add, parts_le, at_most}
+use Rattle.rule.proofs.Signed.{raised}
 use Rattle.rule.proofs.LastJoin.{LastOf, Parent, earlier, latest, two-or-more}
 use Rattle.rule.proofs.Tight.{exact_between, no_closer}
 use Rattle.rule.proofs.TwoChildren.{significant-wider}
@@ -117,15 +117,8 @@ module _ (t : List ℕ) (D : ℕ) (hs : List ℕ) (s : Slices) (a : Answer) (u :
   pub plain-width : a.greatest ≤ℤ (a.least +ℤ pos ((a.nodes - 1) * (D + 2 * widest a.nodes hs)))
   plain-width =
       let W = D + 2 * widest a.nodes hs in
-      let more : a.nodes - 2 ≤ a.nodes - 1 = omega arith in
-      parts_le a.greatest (a.least +ℤ pos ((a.nodes - 1) * W))
-      (omega (
-        arith,
-        at_most _ _ (width-returned (layout-call {t = t} {D = D} {hs = hs} {s = s} L e)),
-        mul-le-mul_right W more,
-        parts_add a.least (pos (most_width a.nodes W 0)),
-        parts_add a.least (pos ((a.nodes - 1) * W)),
-      ))
+      let fewer : a.nodes - 2 ≤ a.nodes - 1 = omega arith in
+      raised _ _ _ ((a.nodes - 1) * W) (width-returned (layout-call {t = t} {D = D} {hs = hs} {s = s} L e)) (omega (arith, mul-le-mul_right W fewer))
 
 -- ---- a call of the layout for TreeTeX
 
