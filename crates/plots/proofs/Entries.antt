@@ -2,45 +2,34 @@
 use mathlib.Core.Path.{◌≡◌, refl, sym, ap, ap₂, ◌∙◌}
 use mathlib.Core.Bool.{Bool, true, false, not, ◌&&◌, ◌||◌}
 use mathlib.Core.List.{List, [], ◌∷◌, map}
-use Prim.Native.Nat.{ℕ, suc, ◌+◌, ◌-◌, ◌*◌, ◌≤◌, ◌<◌}
+use Prim.Native.Nat.{ℕ, zero, suc, ◌+◌, ◌*◌, ◌/◌, ◌≤◌, ◌<◌}
+use native.Mathlib.Numerals.{add-one}
 use native.Mathlib.Omega.{arith}
 use lib.IntN.{ℤ, pos, negsuc}
-use lib.ListN.{length, get_or, drop, length-drop}
+use lib.ListN.{length, get_or, take, drop, drop_of_length-le}
 use lib.Seq.{drop-cons}
 use borrow.Author.Tests.{eq-eqb, ne_eqb}
+use Rattle.std.specs.Simd.{first_chunks}
+use Rattle.std.specs.List.{list_any, list_all, zip}
 use Rattle.tree.specs.Numbers.{any, run}
 use Rattle.tree.proofs.Renumbered.{run-up_to}
-use Rattle.plots.specs.Points.{Point, point, points_of, comes_before, rises_from, rises, same_point, is_among, all_among}
+use Rattle.plots.specs.Points.{point, point_of, points_of, comes_before, rises_from, rises, same_point, is_among, all_among}
+use Rattle.plots.specs.declared.Point.{Point}
 use Rattle.plots.specs.Dots.{level_wrong, dots_wrong, points_at}
 
--- the dot at entry i
-abbrev pub dot_at : List ℤ → ℕ → Point
-dot_at dots i = point (get_or dots i (pos 0)) (get_or dots (i + 1) (pos 0))
+-- ---- in pairs
 
-pub points-next : (dots : List ℤ) (i : ℕ) → i + 1 < length dots → points_of (drop i dots) ≡ dot_at dots i ∷ points_of (drop (i + 2) dots)
-points-next dots i h =
-    let two : suc (suc i) ≡ i + 2 = omega arith in
-    let one : suc i ≡ i + 1 = omega arith in
-    ap points_of (drop-cons dots i (pos 0) (omega arith))
-    ∙ ap (λ (l : List ℤ). points_of (get_or dots i (pos 0) ∷ l)) (drop-cons dots (suc i) (pos 0) (omega arith))
-    ∙ ap₂ (λ (k m : ℕ). point (get_or dots i (pos 0)) (get_or dots k (pos 0)) ∷ points_of (drop m dots)) one two
+pub pair-points : (dots : List ℤ) (n : ℕ) → 2 * n ≤ length dots → length dots < 2 * n + 2 → points_of dots ≡ map point_of (first_chunks 2 n dots)
+pair-points [] zero e h = refl
+pair-points (l ∷ []) zero e h = refl
+pair-points (l ∷ x ∷ dots) zero e h = absurd (omega arith)
+pair-points [] (suc n) e h = absurd (omega arith)
+pair-points (l ∷ []) (suc n) e h = absurd (omega arith)
+pair-points (l ∷ x ∷ dots) (suc n) e h = ap (λ (ps : List Point). point l x ∷ ps) (pair-points dots n (omega arith) (omega arith))
 
-pub points-end : (dots : List ℤ) (i : ℕ) → length dots ≤ i + 1 → points_of (drop i dots) ≡ []
-points-end dots i h = go (drop i dots) (omega (arith, length-drop i dots))
-  where
-    go : (l : List ℤ) → length l ≤ 1 → points_of l ≡ []
-    go [] k = refl
-    go (x ∷ []) k = refl
-    go (x ∷ y ∷ l) k = absurd (omega arith)
-
--- ---- looking for a point
-
-module _ (dots : List ℤ) (i : ℕ) (a : Point) where
-  pub among_next : i + 1 < length dots → is_among (points_of (drop i dots)) a ≡ (same_point a (dot_at dots i) || is_among (points_of (drop (i + 2) dots)) a)
-  among_next h = ap (λ (ps : List Point). is_among ps a) (points-next dots i h)
-
-  pub among-end : length dots ≤ i + 1 → is_among (points_of (drop i dots)) a ≡ false
-  among-end h = ap (λ (ps : List Point). is_among ps a) (points-end dots i h)
+-- the points of the pairs of a slice
+pub points_in : (dots : List ℤ) (pairs : List (List ℤ)) → pairs ≡ first_chunks 2 (length dots / 2) dots → map point_of pairs ≡ points_of dots
+points_in dots pairs e = ap (map point_of) e ∙ sym (pair-points dots (length dots / 2) (omega arith) (omega arith))
 
 -- ---- judging the dots, one after the other
 
@@ -90,37 +79,65 @@ module _ (n : ℕ) (dots : List ℤ) where
       wrong_start (points_of dots)
       ∙ sym (ap (λ (t : Bool). (not t || any level_wrong (points_of dots)) || not (rises (points_of dots))) (eq-eqb (length dots) (2 * n) e))
 
-module _ (dots : List ℤ) (i : ℕ) (a : Point) where
-  pub wrong-next : i + 1 < length dots
-      → wrong_from a (points_of (drop i dots)) ≡ ((level_wrong (dot_at dots i) || not (comes_before a (dot_at dots i))) || wrong_from (dot_at dots i) (points_of (drop (i + 2) dots)))
-  wrong-next h = ap (wrong_from a) (points-next dots i h)
+-- the dots of so many pairs are judged: the rest, behind the last of them, tells whether the dots are wrong
+pub record Judged (n : ℕ) (dots : List ℤ) (pairs : List (List ℤ)) (last : Point) (i : ℕ) : Type 0 where
+  pub rest : wrong_from last (map point_of (drop i pairs)) ≡ dots_wrong n dots
 
-  pub wrong-end : length dots ≤ i + 1 → wrong_from a (points_of (drop i dots)) ≡ false
-  wrong-end h = ap (wrong_from a) (points-end dots i h)
+module _ (n : ℕ) (dots : List ℤ) (pairs : List (List ℤ)) where
+  pub judged_start : length dots ≡ 2 * n → pairs ≡ first_chunks 2 (length dots / 2) dots → Judged n dots pairs start 0
+  judged_start e front = record { rest = ap (wrong_from start) (points_in dots pairs front) ∙ wrong-dots n dots e }
 
--- ---- the points of a layout, one after the other
+  module _ (last : Point) (i : ℕ) (J : Judged n dots pairs last i) where
+    -- one pair further
+    module _ (next : Point) (h : i < length pairs) (read : next ≡ point_of (get_or pairs i [])) where
+      one_more : ((level_wrong next || not (comes_before last next)) || wrong_from next (map point_of (drop (suc i) pairs))) ≡ dots_wrong n dots
+      one_more =
+          ap (λ (p : Point). (level_wrong p || not (comes_before last p)) || wrong_from p (map point_of (drop (suc i) pairs))) read
+          ∙ sym (ap (λ (l : List (List ℤ)). wrong_from last (map point_of l)) (drop-cons pairs i [] h))
+          ∙ J.rest
 
--- the point of node v, and the points of m nodes from v on
-abbrev pub point_at : List ℕ → List ℤ → ℕ → Point
-point_at levels places v = point (pos (get_or levels v 0)) (get_or places v (pos 0))
+      pub judged_wrong : (level_wrong next || not (comes_before last next)) ≡ true → true ≡ dots_wrong n dots
+      judged_wrong wrong = ap (λ (t : Bool). t || wrong_from next (map point_of (drop (suc i) pairs))) (sym wrong) ∙ one_more
 
-abbrev pub points_from : List ℕ → List ℤ → ℕ → ℕ → List Point
-points_from levels places v m = map (point_at levels places) (run v m)
+      pub judged_next : (level_wrong next || not (comes_before last next)) ≡ false → Judged n dots pairs next (i + 1)
+      judged_next right =
+          record {
+            rest = ap (λ (k : ℕ). wrong_from next (map point_of (drop k pairs))) (add-one i)
+                ∙ ap (λ (t : Bool). t || wrong_from next (map point_of (drop (suc i) pairs))) (sym right) ∙ one_more;
+          }
 
-module _ (points : List Point) (levels : List ℕ) (places : List ℤ) where
-  pub all-points : (n : ℕ) → all_among points (points_from levels places 0 (n - 0)) ≡ all_among points (points_at n levels places)
-  all-points n =
-      let same : n - 0 ≡ n = omega arith in
-      ap (λ (m : ℕ). all_among points (points_from levels places 0 m)) same
-      ∙ ap (λ (l : List ℕ). all_among points (map (point_at levels places) l)) (sym (run-up_to n))
+    pub judged_end : length pairs ≤ i → false ≡ dots_wrong n dots
+    judged_end h = ap (λ (l : List (List ℤ)). wrong_from last (map point_of l)) (sym (drop_of_length-le pairs h)) ∙ J.rest
 
-  pub all-next : (n v : ℕ) → v < n
-      → all_among points (points_from levels places v (n - v)) ≡ (is_among points (point_at levels places v) && all_among points (points_from levels places (v + 1) (n - (v + 1))))
-  all-next n v h =
-      let more : n - v ≡ suc (n - (v + 1)) = omega arith in
-      ap (λ (m : ℕ). all_among points (points_from levels places v m)) more
+-- ---- looking for points
 
-  pub all_end : (n v : ℕ) → n ≤ v → all_among points (points_from levels places v (n - v)) ≡ true
-  all_end n v h =
-      let none : n - v ≡ 0 = omega arith in
-      ap (λ (m : ℕ). all_among points (points_from levels places v m)) none
+-- the dots of pairs, gone through one by one
+any-pairs : (pairs : List (List ℤ)) (a : Point) → list_any (λ pair. same_point a (point_of pair)) pairs ≡ is_among (map point_of pairs) a
+any-pairs [] a = refl
+any-pairs (pair ∷ pairs) a = ap (λ (t : Bool). same_point a (point_of pair) || t) (any-pairs pairs a)
+
+-- the points that levels and places tell side by side
+abbrev pub told : ℕ × ℤ → Point
+told seen = point (pos seen.0) seen.1
+
+all-told : (pairs : List (List ℤ)) (seen : List (ℕ × ℤ))
+    → list_all (λ (p : ℕ × ℤ). list_any (λ pair. same_point (told p) (point_of pair)) pairs) seen ≡ all_among (map point_of pairs) (map told seen)
+all-told pairs [] = refl
+all-told pairs (p ∷ seen) = ap₂ ◌&&◌ (any-pairs pairs (told p)) (all-told pairs seen)
+
+module _ (levels : List ℕ) (places : List ℤ) where
+  told-from : (m v : ℕ) → v + m ≤ length levels → v + m ≤ length places
+      → map told (zip (take m (drop v levels)) (take m (drop v places))) ≡ map (λ k. point (pos (get_or levels k 0)) (get_or places k (pos 0))) (run v m)
+  told-from zero v h k = refl
+  told-from (suc m) v h k =
+      ap₂ (λ (ls : List ℕ) (xs : List ℤ). map told (zip (take (suc m) ls) (take (suc m) xs))) (drop-cons levels v 0 (omega arith)) (drop-cons places v (pos 0) (omega arith))
+      ∙ ap (λ (ps : List Point). point (pos (get_or levels v 0)) (get_or places v (pos 0)) ∷ ps)
+      (ap (λ (i : ℕ). map told (zip (take m (drop i levels)) (take m (drop i places)))) (sym (add-one v)) ∙ told-from m (v + 1) (omega arith) (omega arith))
+
+  pub all_listed : (n : ℕ) (dots : List ℤ) (pairs : List (List ℤ)) → pairs ≡ first_chunks 2 (length dots / 2) dots → n ≤ length levels → n ≤ length places
+      → list_all (λ (p : ℕ × ℤ). list_any (λ pair. same_point (told p) (point_of pair)) pairs) (zip (take n levels) (take n places))
+      ≡ all_among (points_of dots) (points_at n levels places)
+  all_listed n dots pairs front h k =
+      all-told pairs (zip (take n levels) (take n places))
+      ∙ ap₂ all_among (points_in dots pairs front)
+      (told-from n 0 (omega arith) (omega arith) ∙ ap (map (λ v. point (pos (get_or levels v 0)) (get_or places v (pos 0)))) (sym (run-up_to n)))

@@ -26,7 +26,8 @@ use Rattle.tree.proofs.Joined.{length-levels}
 use Rattle.rule.specs.Result.{place}
 use Rattle.rule.proofs.Signed.{Under, at_most, parts_add}
 use Rattle.rule.proofs.ReadingOrder.{Pairwise, pairwise_append, LeftBy, Apart, rising, neighbours-at-least}
-use Rattle.plots.specs.Points.{Point, point, all_among, same_set, apart, node_point, laid_out, in_reading_order, table_fits, Within, SameSet}
+use Rattle.plots.specs.Points.{point, all_among, same_set, apart, node_point, laid_out, in_reading_order, table_fits, Within, SameSet}
+use Rattle.plots.specs.declared.Point.{Point}
 use Rattle.plots.specs.Dots.{levels_in}
 use Rattle.plots.proofs.Order.{Before}
 use Rattle.plots.proofs.Sets.{set_same, same_set_lem, all-within, within_all, within_equal}

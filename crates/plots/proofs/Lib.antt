@@ -4,7 +4,6 @@ pub mod Order
 pub mod Sets
 pub mod Laid
 pub mod Shapes
-pub mod Bits
 pub mod Entries
 pub mod Sound
 pub mod Profiles

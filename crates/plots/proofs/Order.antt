@@ -11,7 +11,8 @@ use Rattle.refusal.proofs.Truth.{true-or-false, and_left, and_right, or-true}
 use Rattle.tree.proofs.Counting.{All, all-weaken}
 use Rattle.rule.proofs.Signed.{AtMost, Under}
 use Rattle.rule.proofs.ReadingOrder.{Pairwise}
-use Rattle.plots.specs.Points.{Point, equal_z, comes_before, rises_from, rises, same_point}
+use Rattle.plots.specs.Points.{equal_z, comes_before, rises_from, rises, same_point}
+use Rattle.plots.specs.declared.Point.{Point}
 
 -- ---- tests of signed numbers
 

@@ -10,7 +10,8 @@ use lib.ListN.{length}
 use Rattle.refusal.proofs.Truth.{true-or-false, and_left, and_right, or-true}
 use Rattle.tree.proofs.Counting.{All}
 use Rattle.rule.proofs.ReadingOrder.{Pairwise}
-use Rattle.plots.specs.Points.{Point, same_point, is_among, all_among, same_set, Within, SameSet}
+use Rattle.plots.specs.Points.{same_point, is_among, all_among, same_set, Within, SameSet}
+use Rattle.plots.specs.declared.Point.{Point}
 use Rattle.plots.proofs.Order.{same_point_lem, point-same, Before, never_itself, before-further}
 
 -- ---- the tests

@@ -28,7 +28,8 @@ use Rattle.rule.specs.Result.{place}
 use Rattle.rule.proofs.Extremes.{root-place}
 use Rattle.rule.proofs.Promises.{DrawnEqually, shapes_equal, neighbours-count}
 use Rattle.rule.proofs.ReadingOrder.{Pairwise}
-use Rattle.plots.specs.Points.{Point, point, points_of, entries_of, same_set, apart, node_point, laid_out, in_reading_order, plot_of, table_fits, SameSet}
+use Rattle.plots.specs.Points.{point, points_of, entries_of, same_set, apart, node_point, laid_out, in_reading_order, plot_of, table_fits, SameSet}
+use Rattle.plots.specs.declared.Point.{Point}
 use Rattle.plots.specs.Dots.{dots_wrong}
 use Rattle.plots.proofs.Order.{Before}
 use Rattle.plots.proofs.Sets.{set_same, same_set_lem}

@@ -14,7 +14,8 @@ use Rattle.tree.specs.Numbers.{any}
 use Rattle.tree.proofs.Counting.{All, all-weaken}
 use Rattle.tree.proofs.Tests.{any_false, all_any}
 use Rattle.rule.proofs.ReadingOrder.{Pairwise}
-use Rattle.plots.specs.Points.{Point, points_of, rises}
+use Rattle.plots.specs.Points.{points_of, rises}
+use Rattle.plots.specs.declared.Point.{Point}
 use Rattle.plots.specs.Dots.{level_wrong, dots_wrong}
 use Rattle.plots.proofs.Order.{Before, rising, pairwise_rises}
 

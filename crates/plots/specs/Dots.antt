@@ -2,7 +2,8 @@
 use Rattle.std.specs.Prelude.{ℕ, ◌*◌, ◌<◌, ◌≡◌, Bool, not, ◌&&◌, ◌||◌, List, map, eqb, ℤ, pos, nat_abs, length, get_or}
 use Rattle.std.specs.Int.Signed.{le_z}
 use Rattle.tree.specs.Numbers.{up_to, any, count}
-use Rattle.plots.specs.Points.{Point, point, points_of, rises}
+use Rattle.plots.specs.Points.{point, points_of, rises}
+use Rattle.plots.specs.declared.Point.{Point}
 
 -- outside 0 to 7
 abbrev pub level_wrong : Point → Bool

@@ -1,5 +1,5 @@
 -- The dots of a plot, and those of a tree's layout. A dot is a point: a level and a place.
-use Rattle.std.specs.Prelude.{ℕ, Bool, true, false, ◌&&◌, ◌||◌, eqb, ℤ, pos, negsuc}
+use Rattle.std.specs.Prelude.{ℕ, Bool, true, false, ◌&&◌, ◌||◌, eqb, ℤ, pos, negsuc, get_or}
 use mathlib.Core.List.{List, [], ◌∷◌, map, Memᴰ}
 use Rattle.std.specs.Int.Signed.{lt_z}
 use Rattle.rule.specs.Join.{Spacing, plain}
@@ -8,10 +8,7 @@ use Rattle.tree.specs.Table.{nodes}
 use Rattle.tree.specs.Forest.{tree_of}
 use Rattle.tree.specs.Levels.{level, levels, together}
 use Rattle.rule.specs.Result.{place}
-
-pub record Point : Type 0 where
-  pub level : ℤ
-  pub place : ℤ
+use Rattle.plots.specs.declared.Point.{Point}
 
 abbrev pub point : ℤ → ℤ → Point
 point l x = record { level = l; place = x }
@@ -21,6 +18,10 @@ abbrev pub points_of : List ℤ → List Point
 points_of [] = []
 points_of (l ∷ []) = []
 points_of (l ∷ x ∷ dots) = point l x ∷ points_of dots
+
+-- the point of a pair of entries
+abbrev pub point_of : List ℤ → Point
+point_of pair = point (get_or pair 0 (pos 0)) (get_or pair 1 (pos 0))
 
 -- and back
 abbrev pub entries_of : List Point → List ℤ

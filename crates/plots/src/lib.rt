@@ -1,31 +1,35 @@
 // The dots of a plot: what is right of them, how many stand on each level, and whether a point is among them.
 #![tactic(auto)]
 
-ghost use Rattle.std.specs.Prelude.{◌≡◌, ◌*◌, ◌≤◌, length, false, not, ◌||◌};
-ghost use Rattle.plots.specs.Points.{point, points_of, comes_before, same_point, is_among, all_among};
+ghost use Rattle.std.specs.Prelude.{◌≡◌, ◌*◌, ◌≤◌, length, false, not, ◌||◌, map};
+ghost use Rattle.std.specs.List.{list_any};
+ghost use Rattle.plots.specs.Points.{point_of, points_of, comes_before, same_point, is_among, all_among};
 ghost use Rattle.plots.specs.Dots.{level_wrong, dots_wrong, points_at, Profile};
 
 const LAST_LEVEL: i32 = 7;
 
-// Whether the point at a level and a place comes before the point at the next level and place, by level and then place.
-fn comes_before(level: i32, place: i32, next: i32, at: i32) -> bool
-    ensures { result ≡ comes_before (point level place) (point next at) }
-{
-    (level < next) | ((level == next) & (place < at))
+// A level and a place, ordered by level and then place.
+#[derive(Clone, Copy, PartialEq, Eq, PartialOrd, Ord)]
+pub struct Point {
+    pub level: i32,
+    pub place: i32,
 }
 
-// Whether a dot is on a level outside 0 to 7, or the dot at the level and place before does not come before it.
-fn dot_wrong(level: i32, place: i32, next: i32, at: i32) -> bool
-    ensures { result ≡ (level_wrong (point next at) || not (comes_before (point level place) (point next at))) }
-{
-    !((0 <= next) & (next <= LAST_LEVEL)) | !comes_before(level, place, next, at)
+impl Point {
+    // The dot of two entries.
+    fn of(pair: &[i32; 2]) -> Point
+        ensures { result ≡ point_of pair.now }
+    {
+        let [level, place] = *pair;
+        Point { level, place }
+    }
 }
 
-// Whether the two are one point.
-fn same_point(level: i32, place: i32, other: i32, at: i32) -> bool
-    ensures { result ≡ same_point (point level place) (point other at) }
+// Whether a dot is on a level outside 0 to 7, or the dot before does not come before it.
+fn dot_wrong(last: Point, next: Point) -> bool
+    ensures { result ≡ (level_wrong next || not (comes_before last next)) }
 {
-    (level == other) & (place == at)
+    !(0..=LAST_LEVEL).contains(&next.level) || next <= last
 }
 
 // Whether there are other than 2n entries, a level is outside 0 to 7, or the dots do not rise.
@@ -36,19 +40,18 @@ pub fn dots_wrong(nodes: usize, dots: &[i32]) -> bool
     if dots.len() != 2 * nodes {
         return true;
     }
+    let (pairs, _) = dots.as_chunks::<2>();
     // Every dot on a level from 0 on comes after this.
-    let mut level: i32 = -1;
-    let mut place: i32 = 0;
-    let mut i: usize = 0;
-    while i + 1 < dots.len() {
-        let next = dots[i];
-        let at = dots[i + 1];
-        if dot_wrong(level, place, next, at) {
+    let mut last = Point {
+        level: -1,
+        place: 0,
+    };
+    for pair in pairs {
+        let next = Point::of(pair);
+        if dot_wrong(last, next) {
             return true;
         }
-        level = next;
-        place = at;
-        i += 2;
+        last = next;
     }
     false
 }
@@ -60,29 +63,18 @@ pub fn profile_of(nodes: usize, dots: &[i32]) -> [u16; 8]
     ensures { Profile (points_of dots.now) result }
 {
     let mut profile = [0u16; 8];
-    let mut i: usize = 0;
-    while i + 1 < dots.len() {
-        let level = dots[i] as usize;
-        profile[level] += 1;
-        i += 2;
+    let (pairs, _) = dots.as_chunks::<2>();
+    for pair in pairs {
+        profile[Point::of(pair).level as usize] += 1;
     }
     profile
 }
 
 // Whether a point is one of the dots.
-fn has_dot(dots: &[i32], level: i32, place: i32) -> bool
-    ensures { result ≡ is_among (points_of dots.now) (point level place) }
+fn has_dot(pairs: &[[i32; 2]], point: Point) -> bool
+    ensures { result ≡ list_any (λ pair. same_point point (point_of pair)) pairs.now }
 {
-    let mut i: usize = 0;
-    while i + 1 < dots.len() {
-        let other = dots[i];
-        let at = dots[i + 1];
-        if same_point(level, place, other, at) {
-            return true;
-        }
-        i += 2;
-    }
-    false
+    pairs.iter().any(|pair| point == Point::of(pair))
 }
 
 // Whether the levels and places of the first n nodes are all among the dots.
@@ -91,13 +83,9 @@ pub fn all_dots(dots: &[i32], nodes: usize, levels: &[u16], places: &[i32]) -> b
     requires nodes_in_bounds_2 { nodes ≤ length places.now }
     ensures { result ≡ all_among (points_of dots.now) (points_at nodes levels.now places.now) }
 {
-    let mut v: usize = 0;
-    while v < nodes {
-        let level = levels[v] as i32;
-        if !has_dot(dots, level, places[v]) {
-            return false;
-        }
-        v += 1;
-    }
-    true
+    let (pairs, _) = dots.as_chunks::<2>();
+    levels[..nodes].iter().zip(&places[..nodes]).all(|(&level, &place)| {
+        let level = i32::from(level);
+        has_dot(pairs, Point { level, place })
+    })
 }
