@@ -15,7 +15,7 @@ use Rattle.small_trees.specs.SmallTrees.{further, sequences, tree_count, sequenc
 use Rattle.small_trees.specs.Steps.{Choice, Chosen}
 use Rattle.small_trees.specs.declared.levels.Branch.{Branch}
 use Rattle.small_trees.proofs.Ways.{drop-map, get_or_within}
-use Rattle.trees_of_dots.specs.Steps.{Descends, Descended}
+use Rattle.trees_of_dots.specs.Steps.{Descends, Passed}
 
 -- the levels before a node are stored, and `left` is what they leave of the profile
 pub record Descending (n place : ℕ) (profile left levels : List ℕ) (behind rest node : ℕ) : Type 0 where
@@ -155,12 +155,11 @@ module _ (n place : ℕ) (profile left levels : List ℕ) (behind rest node : �
               (is-cases l b.level)
 
       -- they do not: all that goes on from this level is passed
-      pub descend_passed : n ≤ most_nodes → get_or left b.level 0 ≡ 0 → (levels' : List ℕ)
-          → Descended n place profile (length (further (n - 1 - node) b.level) - b.place) levels'
+      pub descend_passed : n ≤ most_nodes → get_or left b.level 0 ≡ 0 → Passed n place profile (length (further (n - 1 - node) b.level) - b.place)
       unfolding tree_count sequence_at
-      descend_passed few none levels' =
+      descend_passed few none =
           record {
-            stored = λ z. absurd (omega (arith, C.within));
+            onward = omega (arith, C.within);
             inside =
                 omega (
                   arith,
@@ -203,14 +202,9 @@ module _ (n place : ℕ) (profile left levels : List ℕ) (behind rest node : �
 
   -- ---- the end
 
-  pub descend_end : n ≤ node → place < tree_count n → Descended n place profile 0 levels
-  unfolding sequence_at further tree_count
-  descend_end h within =
-      record {
-        stored = λ z. sym (here (n - node) (omega arith) G.within G.ahead);
-        inside = omega arith;
-        skipped = λ q k m. absurd (omega arith);
-      }
+  pub descend_end : n ≤ node → levels ≡ sequence_at n place
+  unfolding sequence_at further
+  descend_end h = sym (here (n - node) (omega arith) G.within G.ahead)
     where
       whole : take node levels ≡ levels
       whole = let all : node ≡ length levels = omega (arith, G.same, G.most) in ap (λ (k : ℕ). take k levels) all ∙ take-length levels

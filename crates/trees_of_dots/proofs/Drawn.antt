@@ -19,7 +19,8 @@ use Rattle.second_walk.proofs.EntryForEach.{length-up_to, map-up_to, told-by-ent
 use Rattle.layout.specs.Operation.{slices}
 use Rattle.layout.proofs.Answers.{room-enough, by-widths, number-room}
 use Rattle.layout.proofs.Returned.{layout-call, accepted, place_of, level_of, place-returned, level-returned}
-use Rattle.plots.specs.Points.{Point, point, points_of, all_among, node_point, laid_out, table_fits}
+use Rattle.plots.specs.Points.{point, points_of, all_among, node_point, laid_out, table_fits}
+use Rattle.plots.specs.declared.Point.{Point}
 use Rattle.plots.specs.Dots.{points_at}
 use Rattle.plots.proofs.Laid.{among-fits}
 use Rattle.plots.proofs.Sound.{sound, points-length}

@@ -2,12 +2,14 @@
 -- level than there are dots does not fit. Assumes nothing.
 use mathlib.Core.Path.{◌≡◌, sym, ap, ◌∙◌, subst⁻¹}
 use mathlib.Core.Logic.{⊎_elim}
-use mathlib.Core.Bool.{true, false, false≢true}
-use mathlib.Core.List.{List, [], ◌∷◌}
-use Prim.Native.Nat.{ℕ, ◌*◌, ◌≤◌, ◌<◌}
+use mathlib.Core.Bool.{Bool, true, false, false≢true}
+use mathlib.Core.List.{List, [], ◌∷◌, ◌++◌}
+use Prim.Native.Nat.{ℕ, ◌+◌, ◌*◌, ◌≤◌, ◌<◌}
+use native.Mathlib.Nat.{le_refl}
 use native.Mathlib.Omega.{arith}
 use lib.IntN.{ℤ}
-use lib.ListN.{length, get_or}
+use lib.ListN.{length, get_or, take}
+use lib.Seq.{take_at}
 use Rattle.refusal.proofs.Truth.{true-or-false}
 use Rattle.distance.proofs.Separation.{good-separation}
 use Rattle.tree.specs.Numbers.{count}
@@ -24,10 +26,11 @@ use Rattle.small_trees.proofs.AllComplete.{at-sequence, at_length, at-levels}
 use Rattle.small_trees.proofs.Answer.{at-numbers}
 use Rattle.small_trees.proofs.Rows.{tree_of-numbers}
 use Rattle.small_trees.proofs.Tables.{sequence-table}
-use Rattle.plots.specs.Points.{Point, points_of, table_fits}
+use Rattle.plots.specs.Points.{points_of, table_fits}
+use Rattle.plots.specs.declared.Point.{Point}
 use Rattle.plots.specs.Dots.{levels_in, Profile}
 use Rattle.trees_of_dots.specs.TreesOfDots.{fits}
-use Rattle.trees_of_dots.specs.Steps.{Plot, Drawable, Exceeds}
+use Rattle.trees_of_dots.specs.Steps.{Plot, Drawable, Exceeds, Passed, TriedAt}
 use Rattle.plots.proofs.Sound.{Sound, sound, points-length}
 use Rattle.plots.proofs.Laid.{reading-levels, fits-reading}
 
@@ -103,3 +106,29 @@ module _ (n place : ℕ) (few : n ≤ most_nodes) (within : place < tree_count n
     -- nor where there is no dot for the root
     pub rootless_unfit : get_or profile 0 0 ≡ 0 → fits n D (points_of dots) place ≡ false
     rootless_unfit none = exceeds_unfit (0, omega arith, omega (arith, rooted (sequence_at n place) (at-sequence n place within)))
+
+-- ---- a place that is tried
+
+module _ (n D : ℕ) (dots : List ℤ) (place : ℕ) (P : Plot n dots D) where
+  -- its sequence is passed, with those that begin alike
+  pub tried-passed : (profile : List ℕ) → Profile (points_of dots) profile → (step : ℕ) → Passed n place profile step
+      → TriedAt n D (points_of dots) place (record { fits = false; step = step })
+  tried-passed profile counted step S =
+      record { here = unfit place (le_refl place) (omega (arith, S.onward)); onward = S.onward; inside = S.inside; between = λ q h k. unfit q (omega arith) k }
+    where
+      unfit : (q : ℕ) → place ≤ q → q < place + step → fits n D (points_of dots) q ≡ false
+      unfit q h k = exceeds_unfit n q P.few (omega (arith, S.inside)) dots D P profile counted (S.skipped q h k)
+
+  -- its levels are stored
+  pub tried-stored : place < tree_count n → (levels : List ℕ) → levels ≡ sequence_at n place → (fit : Bool)
+      → fit ≡ table_fits D (points_of dots) (table_of (length levels) (tree_of_levels levels)) → TriedAt n D (points_of dots) place (record { fits = fit; step = 1 })
+  tried-stored within levels e fit is-fit = record {
+    here = sym (is-fit ∙ fits-levels n place P.few within D (points_of dots) levels e);
+    onward = le_refl 1;
+    inside = omega (arith, within);
+    between = λ q h k. absurd (omega arith);
+  }
+
+-- of a longer row, the first n levels
+pub first_levels : (n place : ℕ) (stored rest : List ℕ) → place < tree_count n → stored ≡ sequence_at n place → take n (stored ++ rest) ≡ sequence_at n place
+first_levels n place stored rest within e = take_at stored rest n (ap length e ∙ at_length n place within) ∙ e

@@ -4,6 +4,7 @@ use mathlib.Core.Logic.{⊎_elim}
 use mathlib.Core.Bool.{Bool, true, false, cond, true≢false}
 use mathlib.Core.List.{List, [], ◌∷◌}
 use Prim.Native.Nat.{ℕ, ◌≤◌, ◌<◌}
+use Rattle.std.proofs.Common.{Option, Some, None}
 use native.Mathlib.Omega.{arith}
 use lib.IntN.{ℤ}
 use lib.ListN.{length}
@@ -21,13 +22,12 @@ use Rattle.rule.specs.Result.{Slices, Answer, Layout}
 use Rattle.layout.proofs.Answers.{taken}
 use Rattle.layout.proofs.Returned as layout
 use Rattle.small_trees.specs.SmallTrees.{tree_count, tree_at, most_nodes}
-use Rattle.plots.specs.Points.{Point, points_of, SameSet, laid_out, plot_of, table_fits}
+use Rattle.plots.specs.Points.{points_of, SameSet, laid_out, plot_of, table_fits}
+use Rattle.plots.specs.declared.Point.{Point}
 use Rattle.plots.specs.Dots.{dots_wrong, points_at}
-use Rattle.trees_of_dots.specs.TreesOfDots.{fits, those, fitting_places, answer_of, refusal, Says, answer, TreesOfDots, values_of, TreesOfDotsValues, FoundAgain}
+use Rattle.trees_of_dots.specs.TreesOfDots.{fits, those, fitting_places, answer_of, refusal, Says, answer, Found, TreesOfDots, values_of, TreesOfDotsValues, FoundAgain}
 use Rattle.trees_of_dots.specs.Steps.{Plot}
-use Rattle.trees_of_dots.specs.declared.Fitting.{Fitting}
-use Rattle.trees_of_dots.specs.declared.Fitting.TheVariants.{Trees, None}
-use Rattle.trees_of_dots.specs.declared.Found.{Found}
+use Rattle.trees_of_dots.specs.declared.Trees.{Trees}
 use Rattle.trees_of_dots.specs.declared.Values.{Values}
 use Rattle.plots.proofs.Sets.{set_same, same_set_lem}
 use Rattle.trees_of_dots.proofs.Numbers.{number_0, accepted, number-says}
@@ -54,8 +54,8 @@ module _ (D : ℕ) (points : List Point) (t : List ℕ) where
 -- ---- a call
 
 module _ (n : ℕ) (dots : List ℤ) (D : ℕ) (v : Values) (call : TreesOfDotsValues n dots D v) where
-  number-kept : (k : ℕ) (f : Fitting) → (values_of k f).number ≡ k
-  number-kept k (Trees lowest count) = refl
+  number-kept : (k : ℕ) (f : Option Trees) → (values_of k f).number ≡ k
+  number-kept k (Some trees) = refl
   number-kept k None = refl
 
   pub number-returned : v.number ≡ refusal n dots D

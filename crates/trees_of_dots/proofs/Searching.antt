@@ -3,18 +3,19 @@ use mathlib.Core.Path.{◌≡◌, refl, sym, ap, ◌∙◌}
 use mathlib.Core.Bool.{Bool, true, false, cond}
 use mathlib.Core.List.{List, [], ◌∷◌, ◌++◌, append-nil}
 use Prim.Native.Nat.{ℕ, suc, ◌+◌, ◌≤◌, ◌<◌}
+use Rattle.std.proofs.Common.{Option, Some, None}
 use native.Mathlib.Omega.{arith}
 use lib.IntN.{ℤ}
 use lib.ListN.{length, get_or, length-append}
 use Rattle.tree.specs.Numbers.{up_to}
 use Rattle.second_walk.proofs.EntryForEach.{length-up_to}
 use Rattle.small_trees.specs.SmallTrees.{tree_count}
-use Rattle.plots.specs.Points.{Point, points_of}
+use Rattle.plots.specs.Points.{points_of}
+use Rattle.plots.specs.declared.Point.{Point}
 use Rattle.plots.specs.Dots.{Profile}
 use Rattle.trees_of_dots.specs.TreesOfDots.{fits, those, fitting_places, answer_of}
 use Rattle.trees_of_dots.specs.Steps.{Plot, TriedAt, with_place, count_of}
-use Rattle.trees_of_dots.specs.declared.Fitting.{Fitting}
-use Rattle.trees_of_dots.specs.declared.Fitting.TheVariants.{Trees, None}
+use Rattle.trees_of_dots.specs.declared.Trees.{Trees}
 use Rattle.trees_of_dots.specs.declared.search.Tried.{Tried}
 use Rattle.trees_of_dots.proofs.Listed.{rootless_unfit}
 use Rattle.trees_of_dots.proofs.Those.{those-few, those-onward, none-those}
@@ -23,7 +24,7 @@ use Rattle.trees_of_dots.proofs.Those.{those-few, those-onward, none-those}
 
 pub answer-more : (l : List ℕ) (p : ℕ) → answer_of (l ++ p ∷ []) ≡ with_place (answer_of l) p
 answer-more [] p = refl
-answer-more (x ∷ l) p = ap (Trees x) (ap suc (length-append l (p ∷ [])) ∙ one (length l))
+answer-more (x ∷ l) p = ap (λ (k : ℕ). Some (record { lowest = x; count = k })) (ap suc (length-append l (p ∷ [])) ∙ one (length l))
   where
     one : (k : ℕ) → suc (k + 1) ≡ suc k + 1
     one k = omega arith
@@ -33,7 +34,7 @@ answer-count [] = refl
 answer-count (x ∷ l) = refl
 
 -- the places below this one are tried
-pub record Searched (n D : ℕ) (points : List Point) (found : Fitting) (place : ℕ) : Type 0 where
+pub record Searched (n D : ℕ) (points : List Point) (found : Option Trees) (place : ℕ) : Type 0 where
   pub within : place ≤ tree_count n
   pub so_far : found ≡ answer_of (those (fits n D points) (up_to place))
 
@@ -45,7 +46,7 @@ module _ (n D : ℕ) (points : List Point) where
   unfolding fitting_places
   search_none none = sym (ap answer_of (none-those (fits n D points) (tree_count n) none))
 
-  module _ (found : Fitting) (place : ℕ) (S : Searched n D points found place) where
+  module _ (found : Option Trees) (place : ℕ) (S : Searched n D points found place) where
     -- no more were found than tried
     pub found_few : count_of found ≤ place
     found_few =
@@ -68,7 +69,7 @@ module _ (n D : ℕ) (points : List Point) where
           record {
             within = T.inside;
             so_far =
-                ap (λ (f : Fitting). with_place f place) S.so_far
+                ap (λ (f : Option Trees). with_place f place) S.so_far
                 ∙ sym (answer-more (those (fits n D points) (up_to place)) place)
                 ∙ sym (ap answer_of (tried ∙ ap (λ (b : Bool). those (fits n D points) (up_to place) ++ cond b (place ∷ []) []) e));
           }

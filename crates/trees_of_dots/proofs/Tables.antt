@@ -6,7 +6,8 @@ use Rattle.tree.specs.Table.{nodes}
 use Rattle.tree.specs.WellFormed.{table_number}
 use Rattle.small_trees.specs.SmallTrees.{tree_count, most_nodes}
 use Rattle.small_trees.proofs.Tables.{one_table}
-use Rattle.plots.specs.Points.{Point, table_fits}
+use Rattle.plots.specs.Points.{table_fits}
+use Rattle.plots.specs.declared.Point.{Point}
 use Rattle.plots.proofs.Shapes.{fits-renumbered}
 use Rattle.trees_of_dots.specs.TreesOfDots.{fits}
 

@@ -1,15 +1,14 @@
 -- What the inner steps promise.
-use Rattle.std.specs.Prelude.{ℕ, ◌+◌, ◌≤◌, ◌<◌, ◌≡◌, false, List, ℤ, length, get_or}
+use Rattle.std.specs.Prelude.{ℕ, ◌+◌, ◌≤◌, ◌<◌, ◌≡◌, false, List, ℤ, Option, Some, None, length, get_or}
 use Rattle.distance.specs.Needed.{bad_separation}
 use Rattle.tree.specs.Numbers.{count}
 use Rattle.tree.specs.Table.{nodes}
 use Rattle.tree.specs.WellFormed.{table_number}
 use Rattle.small_trees.specs.SmallTrees.{tree_count, sequence_at, most_nodes}
-use Rattle.plots.specs.Points.{Point}
+use Rattle.plots.specs.declared.Point.{Point}
 use Rattle.plots.specs.Dots.{dots_wrong}
 use Rattle.trees_of_dots.specs.TreesOfDots.{fits}
-use Rattle.trees_of_dots.specs.declared.Fitting.{Fitting}
-use Rattle.trees_of_dots.specs.declared.Fitting.TheVariants.{Trees, None}
+use Rattle.trees_of_dots.specs.declared.Trees.{Trees}
 use Rattle.trees_of_dots.specs.declared.search.Tried.{Tried}
 
 -- a plot of n dots and a separation that are not refused
@@ -38,11 +37,16 @@ pub record Descends (place : ℕ) (profile levels : List ℕ) : Type 0 where
   pub within : place < tree_count (length levels)
   pub size : length profile ≡ 8
 
--- The levels at a place are stored; or, from that place on, as many sequences as are said have more nodes on some level than the profile.
-pub record Descended (n place : ℕ) (profile : List ℕ) (skip : ℕ) (levels : List ℕ) : Type 0 where
-  pub stored : skip ≡ 0 → levels ≡ sequence_at n place
+-- from a place on, as many sequences as are said have more nodes on some level than the profile
+pub record Passed (n place : ℕ) (profile : List ℕ) (skip : ℕ) : Type 0 where
+  pub onward : 1 ≤ skip
   pub inside : place + skip ≤ tree_count n
   pub skipped : (q : ℕ) → place ≤ q → q < place + skip → Exceeds profile (sequence_at n q)
+
+-- the levels at a place are stored; or, from that place on, so many sequences are passed
+abbrev pub Descended : ℕ → ℕ → List ℕ → Option ℕ → List ℕ → Type 0
+Descended n place profile None levels = levels ≡ sequence_at n place
+Descended n place profile (Some skip) levels = Passed n place profile skip
 
 -- whether the tree at a place fits, and how far on the next place is that may have a tree that fits
 pub record TriedAt (n D : ℕ) (points : List Point) (place : ℕ) (r : Tried) : Type 0 where
@@ -52,10 +56,10 @@ pub record TriedAt (n D : ℕ) (points : List Point) (place : ℕ) (r : Tried) :
   pub between : (q : ℕ) → place < q → q < place + r.step → fits n D points q ≡ false
 
 -- one place more
-abbrev pub with_place : Fitting → ℕ → Fitting
-with_place None p = Trees p 1
-with_place (Trees lowest count) p = Trees lowest (count + 1)
+abbrev pub with_place : Option Trees → ℕ → Option Trees
+with_place None p = Some (record { lowest = p; count = 1 })
+with_place (Some trees) p = Some (record { lowest = trees.lowest; count = trees.count + 1 })
 
-abbrev pub count_of : Fitting → ℕ
+abbrev pub count_of : Option Trees → ℕ
 count_of None = 0
-count_of (Trees lowest count) = count
+count_of (Some trees) = trees.count

@@ -2,27 +2,23 @@
 #![tactic(auto)]
 
 ghost use Rattle.std.specs.Prelude.{◌≡◌};
-ghost use Rattle.trees_of_dots.specs.TreesOfDots.{refusal, TreesOfDots, values_of};
+ghost use Rattle.refusal.specs.Number.{number_of};
+ghost use Rattle.trees_of_dots.specs.TreesOfDots.{refusal, TreesOfDots, found_of, values_of};
 
 mod search;
 
 use plots::dots_wrong;
+use refusal::Refusal;
 use search::search;
 
-// The trees that fit: the lowest place of one in the list of the trees of so many nodes, and how many there are; or none.
+// The trees that fit: the lowest place of one in the list of the trees of so many nodes, and how many there are.
 #[derive(Clone, Copy)]
-pub enum Fitting {
-    Trees { lowest: u16, count: u16 },
-    None,
+pub struct Trees {
+    pub lowest: u16,
+    pub count: u16,
 }
 
-#[derive(Clone, Copy)]
-pub struct Found {
-    pub number: u16,
-    pub fitting: Fitting,
-}
-
-// The same in plain fields: a count of 0 is none.
+// A call's number and what it found in plain fields: a count of 0 is none.
 #[derive(Clone, Copy)]
 pub struct Values {
     pub number: u16,
@@ -30,53 +26,42 @@ pub struct Values {
     pub count: u16,
 }
 
-// 20, 22, 6, or 0 where none holds.
-fn judge(nodes: u16, dots: &[i32], separation: u16) -> u16
-    ensures { result ≡ refusal nodes dots.now separation }
+// What a call is refused for.
+fn judge(nodes: u16, dots: &[i32], separation: u16) -> Result<(), Refusal>
+    ensures { number_of result ≡ refusal nodes dots.now separation }
 {
-    if nodes < 1 || 8 < nodes {
-        return 20;
+    if !(1..=8).contains(&nodes) {
+        return Err(Refusal::SmallTreeNodes);
     }
     if dots_wrong(nodes as usize, dots) {
-        return 22;
+        return Err(Refusal::Dots);
     }
-    if separation < 1 || 1024 < separation {
-        return 6;
+    if !(1..=1024).contains(&separation) {
+        return Err(Refusal::Separation);
     }
-    0
+    Ok(())
 }
 
 // The trees of so many nodes whose layout under the separation has just these dots: level, place, level, place and so on, rising by level and
 // then place.
-pub fn trees_of_dots(nodes: u16, dots: &[i32], separation: u16) -> Found
-    ensures { TreesOfDots nodes dots.now separation result }
+pub fn trees_of_dots(nodes: u16, dots: &[i32], separation: u16) -> Result<Option<Trees>, Refusal>
+    ensures { TreesOfDots nodes dots.now separation (found_of result) }
 {
-    let number = judge(nodes, dots, separation);
-    if number != 0 {
-        return Found {
-            number,
-            fitting: Fitting::None,
-        };
-    }
-    Found {
-        number,
-        fitting: search(nodes as usize, dots, separation),
-    }
+    judge(nodes, dots, separation)?;
+    Ok(search(nodes as usize, dots, separation))
 }
 
-pub fn values_of(number: u16, fitting: Fitting) -> Values
-    ensures { result ≡ values_of number fitting }
+pub fn values_of(number: u16, found: Option<Trees>) -> Values
+    ensures { result ≡ values_of number found }
 {
-    match fitting {
-        Fitting::Trees { lowest, count } => Values {
-            number,
-            lowest,
-            count,
-        },
-        Fitting::None => Values {
-            number,
-            lowest: 0,
-            count: 0,
-        },
+    let none = Trees {
+        lowest: 0,
+        count: 0,
+    };
+    let Trees { lowest, count } = found.unwrap_or(none);
+    Values {
+        number,
+        lowest,
+        count,
     }
 }

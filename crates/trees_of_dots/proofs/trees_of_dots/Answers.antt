@@ -1,30 +1,24 @@
 -- `trees_of_dots` meets its contract. Assumes nothing.
-use mathlib.Core.Path.{sym, ◌∙◌}
+use Rattle.std.proofs.Common.{sym, ◌∙◌}
+use Rattle.std.proofs.lemmas.Result.{err_from_is_err_and}
 use Rattle.refusal.proofs.After.{granted-accepted, granted-refused}
-use Rattle.trees_of_dots.specs.TreesOfDots.{refusal}
-use Rattle.trees_of_dots.specs.declared.Fitting.TheVariants.{None}
+use Rattle.refusal.proofs.Numbers.{number-nonzero}
 use Rattle.trees_of_dots.proofs.Numbers.{accepted}
 use Rattle.trees_of_dots.proofs.trees_of_dots.Goals as goal
 
-pub returns-then-number-ne0 : goal.returns-then-number-ne0
-returns-then-number-ne0 c =
-    let a = c.args in
-    record {
-      number = c.judge-number.ensures;
-      fitting = sym (granted-refused (refusal a.nodes a.dots.now a.separation) _ None (λ z. c.if-number-ne0.true (c.judge-number.ensures ∙ z)));
-    }
+pub returns-in_err-judge : goal.returns-in_err-judge
+returns-in_err-judge c =
+    let p = err_from_is_err_and c.from_residual.result c.from_residual.ensures.1 in
+    rw (p.1, p.2) (record {
+      number = c.in_err-judge.ensures;
+      fitting = sym (granted-refused _ _ _ (λ z. number-nonzero _ (c.in_err-judge.ensures ∙ z)));
+    })
 
--- past the test of the number
 pub search-requires : goal.search-requires
-search-requires c =
-    let a = c.args in
-    accepted a.nodes a.dots.now a.separation (sym c.judge-number.ensures ∙ c.if-number-ne0.false)
+search-requires c = accepted _ _ _ (sym c.in_ok-judge.ensures)
 
 pub returns : goal.returns
-returns c =
-    let a = c.args in
-    record {
-      number = c.judge-number.ensures;
-      fitting = c.search.ensures
-          ∙ sym (granted-accepted (refusal a.nodes a.dots.now a.separation) _ None (sym c.judge-number.ensures ∙ c.if-number-ne0.false));
-    }
+returns c = record {
+  number = c.in_ok-judge.ensures;
+  fitting = c.search.ensures ∙ sym (granted-accepted _ _ _ (sym c.in_ok-judge.ensures));
+}

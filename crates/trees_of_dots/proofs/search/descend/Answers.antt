@@ -18,7 +18,7 @@ loop-node-preserved c =
 pub returns-in_default : goal.returns-in_default
 returns-in_default c =
     let none = c.in_default.ensures in
-    rw c.ways.ensures (descend_passed _ _ _ _ _ _ _ _ c.loop-node.invariant (omega arith) _ c.choose-behind.ensures c.requires.few (omega (arith, none)) _)
+    rw c.ways.ensures (descend_passed _ _ _ _ _ _ _ _ c.loop-node.invariant (omega arith) _ c.choose-behind.ensures c.requires.few (omega (arith, none)))
 
 pub returns : goal.returns
-returns c = descend_end _ _ _ _ _ _ _ _ c.loop-node.invariant (omega arith) c.requires.within
+returns c = descend_end _ _ _ _ _ _ _ _ c.loop-node.invariant (omega arith)
