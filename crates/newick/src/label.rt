@@ -11,7 +11,7 @@ struct Label {
     end: usize,
 }
 
-// The number whose digits stand at a place.
+// The number whose digits stand at a place. Some byte comes after them, so that the loop needs no test of the text's end.
 fn number_at(text: &[u8], at: usize) -> Label
     requires { LabelHere text.now at }
     ensures { result ≡ record { value = label_at text.now at; end = at + leading (drop at text.now) } }

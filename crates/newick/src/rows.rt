@@ -3,8 +3,7 @@
 ghost use Rattle.newick.specs.Steps.{SubtreeHere, ListHere, SubtreeRead, ListRead};
 
 use super::label::{read_label, store_pair};
-
-const NONE: u16 = 65535;
+use tree::NONE;
 
 // Where reading has come to: the place in the text, and the number of the next node.
 #[derive(Clone, Copy)]

@@ -110,13 +110,13 @@ module _ (view : View) (level : ℕ) (place : ℤ) (fits : level < 2 ^ 16) (none
   down_is = distance_is (units_down level) view.down view.zoom level_moderate A.down A.zoom
 
   -- from the two distances and the tests of the edges to where the node is seen
-  pub seen-is : (x y : Float) (u v : Bool) → x ≡ distance (of_int binary64 place) view.across view.zoom
+  pub seen-is : (x y : Float) (u v t : Bool) → x ≡ distance (of_int binary64 place) view.across view.zoom
       → y ≡ distance (of_int binary64 (units_down level)) view.down view.zoom
       → u ≡ within x (fin false 15 (pos 6))
       → v ≡ within y (fin false 135 (pos 2))
-      → then_some (u && v) (at x y) ≡ seen_at view level place
+      → (u && v) ≡ t → then_some t (at x y) ≡ seen_at view level place
   unfolding seen_at
-  seen-is x y u v x-is y-is u-is v-is =
+  seen-is x y u v t x-is y-is u-is v-is e =
       let at_x : x ≡ nearest (eight_across view place) 8 = x-is ∙ across-is in
       let at_y : y ≡ nearest (eight_down view level) 8 = y-is ∙ down_is in
       let in-width : u ≡ leb (nat_abs (eight_across view place)) (8 * 960) =
@@ -125,4 +125,4 @@ module _ (view : View) (level : ℕ) (place : ℤ) (fits : level < 2 ^ 16) (none
       let in-height : v ≡ leb (nat_abs (eight_down view level)) (8 * 540) =
       v-is ∙ ap (λ (z : Float). within z (fin false 135 (pos 2))) at_y ∙ within-nearest (eight_down view level) 135 2 (lit< tt) down-small
       in
-      ap₂ then_some (ap₂ ◌&&◌ in-width in-height) (ap₂ at at_x at_y)
+      ap₂ then_some (sym e ∙ ap₂ ◌&&◌ in-width in-height) (ap₂ at at_x at_y)

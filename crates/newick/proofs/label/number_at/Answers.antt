@@ -3,7 +3,7 @@ use mathlib.Core.Path.{sym, ap₂}
 use Prim.Native.Nat.{ℕ}
 use native.Mathlib.Omega.{arith}
 use Rattle.newick.specs.Reading.{is_digit}
-use Rattle.newick.proofs.LabelAt.{passed_turn, passed-label, passed-end}
+use Rattle.newick.proofs.LabelAt.{DigitTurn, passed_turn, passed-label, passed-end}
 use Rattle.newick.proofs.label.number_at.Goals as goal
 
 pub overflow_mul-value : goal.overflow_mul-value
@@ -13,24 +13,21 @@ overflow_mul-value c =
     let turn = passed_turn c.args.text.now c.args.at l.value l.end c.requires l.invariant (sym c.loop-value-test.ensures.value) in
     record { fits = omega (arith, turn.fits) }
 
-pub overflow_add-value : goal.overflow_add-value
+-- what is known where the digit has been taken
+turn : (c : goal.After-from) → DigitTurn c.args.text.now c.args.at c.loop-value.value c.loop-value.end
 unfolding is_digit
-overflow_add-value c =
+turn c =
     let l = c.loop-value in
-    let turn = passed_turn c.args.text.now c.args.at l.value l.end c.requires l.invariant (sym c.loop-value-test.ensures.value) in
-    record { fits = omega (arith, turn.fits) }
+    passed_turn c.args.text.now c.args.at l.value l.end c.requires l.invariant (sym c.loop-value-test.ensures.value)
+
+pub overflow_add-value : goal.overflow_add-value
+overflow_add-value c = record { fits = omega (arith, (turn c).fits) }
 
 pub loop-value-smaller : goal.loop-value-smaller
-unfolding is_digit
-loop-value-smaller c =
-    let l = c.loop-value in
-    (passed_turn c.args.text.now c.args.at l.value l.end c.requires l.invariant (sym c.loop-value-test.ensures.value)).falls
+loop-value-smaller c = (turn c).falls
 
 pub loop-value-preserved : goal.loop-value-preserved
-unfolding is_digit
-loop-value-preserved c =
-    let l = c.loop-value in
-    rw c.from.ensures (passed_turn c.args.text.now c.args.at l.value l.end c.requires l.invariant (sym c.loop-value-test.ensures.value)).again
+loop-value-preserved c = rw c.from.ensures (turn c).again
 
 pub returns : goal.returns
 unfolding is_digit
