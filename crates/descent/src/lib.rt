@@ -87,12 +87,15 @@ pub fn meet(work: &mut [i32], s: Stand, elders: Elders) -> i32
     ensures gathered { work.new ≡ worked work.old s elders.first elders.child elders.default }
 {
     let close = s.right + get(work, s.child, Field::Need) - (s.left + s.moved);
-    if close > 0 {
+    let amount = if close > 0 {
         let met = owner::owner(work, s.child - 1, elders);
         share(work, met, elders.child, close as usize);
-    }
+        close
+    } else {
+        0
+    };
     put(work, s.end - 1, Field::Ancestor, elders.child as i32);
-    close.max(0)
+    amount
 }
 
 // Whether either contour has no further level.

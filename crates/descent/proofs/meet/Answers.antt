@@ -10,7 +10,6 @@ use lib.Dec.{T}
 use lib.Signed.{lt_z, non_neg, mag}
 use mir.Syntax.{w64}
 use mir.Val.{Fits}
-use Rattle.std.specs.Int.{int_max}
 use Rattle.rule.proofs.Signed.{nat_abs_add, nat_abs_sub}
 use Rattle.level_order.specs.Fields.{get, put, NEED, ANCESTOR}
 use Rattle.level_order.proofs.Signed32.{stored, Held, told, held, plus, minus, signed, unsigned-fits}
@@ -18,7 +17,7 @@ use Rattle.descent.specs.declared.Stand.{Stand}
 use Rattle.descent.specs.declared.Elders.{Elders}
 use Rattle.shifts.specs.Shifts.{shared}
 use Rattle.descent.specs.Descent.{Modest, Level, too_close, owner_of, noted}
-use Rattle.descent.proofs.Above.{not-above, is-above, above-max}
+use Rattle.descent.proofs.Above.{not-above, is-above}
 use Rattle.descent.proofs.OwnerOf.{owner_range}
 use Rattle.descent.proofs.meet.Goals as goal
 use Rattle.descent.proofs.meet.Goals.{then-close-gt0, else-close-gt0}
@@ -60,9 +59,6 @@ module _ (work : List ℤ) (s : Stand) (h : Elders) (level : Level work s h.firs
         modest,
       ))
 
-  greatest : int_max (stored difference) (pos 0) ≡ pos (too_close work s)
-  greatest = ap (λ (x : ℤ). int_max x (pos 0)) close.read ∙ above-max gap
-
   -- a conflict
   module _ (some : lt_z (pos 0) (stored difference) ≡ true) where
     above : (gap ≡ pos (too_close work s)) × (0 < too_close work s)
@@ -71,8 +67,11 @@ module _ (work : List ℤ) (s : Stand) (h : Elders) (level : Level work s h.firs
     castable : too_close work s ≤ 4194304 → T (non_neg (stored difference)) × Fits w64 (nat_abs (stored difference))
     castable h = unsigned-fits difference (too_close work s) (ap₂ ◌-ℤ◌ least.read place.read ∙ above.0) (omega arith)
 
+    counted : stored difference ≡ pos (too_close work s)
+    counted = close.read ∙ above.0
+
     amount : nat_abs (stored difference) ≡ too_close work s
-    amount = ap nat_abs (close.read ∙ above.0)
+    amount = ap nat_abs counted
 
     noted-some : (i : ℕ) → i ≡ owner_of (get work ANCESTOR (s.child - 1)) h.first h.child h.default
         → noted work s h.first h.child h.default (too_close work s) ≡ shared work i h.child (nat_abs (stored difference))
@@ -115,8 +114,17 @@ share-requires-clause-changes c =
 
 pub returns-clause-amount : goal.returns-clause-amount
 returns-clause-amount c =
-    told c.max.type_inv
-    (c.max.ensures.value ∙ greatest c.args.work.now c.args.s c.args.elders c.requires.level c.requires.need c.get.result c.get.type_inv c.get.ensures)
+    let s = c.args.s in
+    let h = c.args.elders in
+    let l = c.requires.level in
+    elim c.if-close-gt0.branch [
+      | then-close-gt0 w ↦
+          w.amount-is
+          ∙ counted c.args.work.now s h l c.requires.need c.get.result c.get.type_inv c.get.ensures w.if-close-gt0.true
+      | else-close-gt0 w ↦
+          w.amount-is
+          ∙ ap pos (sym (none c.args.work.now s h l c.requires.need c.get.result c.get.type_inv c.get.ensures w.if-close-gt0.false))
+    ]
 
 pub returns-clause-gathered : goal.returns-clause-gathered
 returns-clause-gathered c =
