@@ -87,6 +87,7 @@ pub fn meet(work: &mut [i32], s: Stand, elders: Elders) -> i32
     ensures gathered { work.new ≡ worked work.old s elders.first elders.child elders.default }
 {
     let close = s.right + get(work, s.child, Field::Need) - (s.left + s.moved);
+    // By the branch: `close.max(0)` after it would cost three instructions more on each level.
     let amount = if close > 0 {
         let met = owner::owner(work, s.child - 1, elders);
         share(work, met, elders.child, close as usize);
