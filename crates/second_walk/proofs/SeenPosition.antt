@@ -1,5 +1,5 @@
--- A position that has been seen is one node on one level, and both are read as unsigned numbers. Assumes nothing.
-use mathlib.Core.Path.{◌≡◌, sym, ap, ◌∙◌}
+-- The level of a position that has been seen is read as an unsigned number. Assumes nothing.
+use mathlib.Core.Path.{◌≡◌, ◌∙◌}
 use mathlib.Core.List.{List}
 use Prim.Native.Nat.{ℕ}
 use native.Mathlib.Omega.{arith}
@@ -12,17 +12,9 @@ use Rattle.level_order.specs.Fields.{get, LEVEL}
 use Rattle.level_order.proofs.Signed32.{unsigned, castable}
 use Rattle.second_walk.specs.SecondWalk.{Seen}
 
-module _ {work : List ℤ} {p v l : ℕ} (S : Seen work p v l) where
-  module _ {w k : ℕ} (R : Seen work p w k) where
-    pub same-node : v ≡ w
-    same-node = ap nat_abs (sym S.node ∙ R.node)
+module _ {work : List ℤ} {p v l : ℕ} (S : Seen work p v l) {z : ℤ} (e : z ≡ get work LEVEL p) where
+  pub level-number : nat_abs (to_z w32 (of_z w32 z)) ≡ l
+  level-number = unsigned z l (e ∙ S.level) (omega arith)
 
-    pub same-level : l ≡ k
-    same-level = ap nat_abs (sym S.level ∙ R.level)
-
-  module _ {z : ℤ} where
-    pub level-number : z ≡ get work LEVEL p → nat_abs (to_z w32 (of_z w32 z)) ≡ l
-    level-number e = unsigned z l (e ∙ S.level) (omega arith)
-
-    pub level-fits : z ≡ get work LEVEL p → T (non_neg (to_z w32 (of_z w32 z))) × Fits w16 (nat_abs (to_z w32 (of_z w32 z)))
-    level-fits e = castable z l (e ∙ S.level) (omega arith) w16 (record { fits = omega arith })
+  pub level-fits : T (non_neg (to_z w32 (of_z w32 z))) × Fits w16 (nat_abs (to_z w32 (of_z w32 z)))
+  level-fits = castable z l (e ∙ S.level) (omega arith) w16 (record { fits = omega arith })
