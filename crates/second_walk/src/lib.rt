@@ -1,7 +1,7 @@
 // The second walk, from the first position to the last: places and levels by node number, the extremes, and the record.
 #![tactic(auto)]
 
-ghost use Rattle.std.specs.Prelude.{◌≡◌, ℕ, ◌*◌, ◌≤◌, ◌<◌, pos};
+ghost use Rattle.std.specs.Prelude.{◌≡◌, ℕ, pos};
 ghost use Rattle.level_order.specs.Fields as fields;
 ghost use Rattle.level_order.specs.Spaced.{table_of};
 ghost use Rattle.second_walk.specs.SecondWalk.{spacing_of, Ready, Descends, descended, Writes, Written, Pairs, Paired, Lengths};
@@ -10,6 +10,7 @@ ghost use Rattle.second_walk.specs.SecondWalk as walk;
 use level_order::field::{Field, get, put};
 use level_order::spaced_tree::SpacedTree;
 
+// How many levels there are, the least and the greatest place, and how many pairs.
 #[derive(Clone, Copy)]
 pub struct Settled {
     pub levels: u16,
@@ -40,7 +41,8 @@ fn write(work: &[i32], p: usize, places: &mut [i32], levels: &mut [u16])
     levels[v] = get(work, p, Field::Level) as u16;
 }
 
-// Writes the pair of two positions that follow each other, if they have one level, and says how many pairs there are now.
+// Writes the pair of two positions that follow each other, if they have one level, and says how many pairs there are now. The count stands
+// beside the record, since a struct that held both would have to say in each contract that it keeps the reference.
 fn pair(work: &[i32], left: usize, right: usize, measured: &mut [u16], pairs: usize) -> usize
     requires { Pairs work.now left right measured.old pairs }
     ensures { Paired work.now left right measured.old pairs result measured.new }
