@@ -16,16 +16,12 @@ fn others(tree: &SpacedTree<'_>, work: &mut [i32], first: usize, end: usize)
 {
     let mut default = first;
     for child in first + 1..end {
-        default = join(
-            tree,
-            work,
-            Elders {
-                first,
-                child,
-                default,
-            },
-            end,
-        );
+        let elders = Elders {
+            first,
+            child,
+            default,
+        };
+        default = join(tree, work, elders, end);
     }
 }
 

@@ -16,14 +16,14 @@ pub fn join(tree: &SpacedTree<'_>, work: &mut [i32], elders: Elders, end: usize)
     requires inside { elders.child < end }
     ensures { Joined (table_of tree.now) (spacing_of tree.now) elders.first elders.child end result work.old work.new }
 {
-    let mut s = begin(work, elders);
-    let start = s.left;
-    while !ended(work, s) {
-        s = descend(work, s);
-        s.moved += meet(work, s, elders);
+    let mut stand = begin(work, elders);
+    let start = stand.left;
+    while !ended(work, stand) {
+        stand = descend(work, stand);
+        stand.moved += meet(work, stand, elders);
     }
-    s.moved = widened(s.moved, tree.extra);
-    let default = thread(work, s, elders);
-    put(work, elders.child, Field::Place, start + s.moved);
+    stand.moved = widened(stand.moved, tree.extra);
+    let default = thread(work, stand, elders);
+    put(work, elders.child, Field::Place, start + stand.moved);
     default
 }

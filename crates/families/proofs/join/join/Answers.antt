@@ -5,57 +5,57 @@ use Rattle.families.proofs.Worked.{Worked, worked-first}
 use Rattle.families.proofs.Turn.{last-modest, need-modest, level-now, steps-now, contour-lower, fewer-lower, sum-modest, level-wide, threads-wide, place-held, joined-now, level-met, need-met, close-modest, moved-held, worked-now}
 use Rattle.families.proofs.join.join.Goals as goal
 
-pub begin-s-requires-clause-few : goal.begin-s-requires-clause-few
-begin-s-requires-clause-few c =
+pub begin-stand-requires-clause-few : goal.begin-stand-requires-clause-few
+begin-stand-requires-clause-few c =
     let K = joining (joins_of c.args.tree.now c.requires.rowed c.requires.waiting c.requires.inside) in
     omega (arith, small_n K, few K)
 
-pub begin-s-requires-clause-place : goal.begin-s-requires-clause-place
-begin-s-requires-clause-place c = last-modest (joining (joins_of c.args.tree.now c.requires.rowed c.requires.waiting c.requires.inside))
+pub begin-stand-requires-clause-place : goal.begin-stand-requires-clause-place
+begin-stand-requires-clause-place c = last-modest (joining (joins_of c.args.tree.now c.requires.rowed c.requires.waiting c.requires.inside))
 
-pub begin-s-requires-clause-need : goal.begin-s-requires-clause-need
-begin-s-requires-clause-need c = need-modest (joining (joins_of c.args.tree.now c.requires.rowed c.requires.waiting c.requires.inside))
+pub begin-stand-requires-clause-need : goal.begin-stand-requires-clause-need
+begin-stand-requires-clause-need c = need-modest (joining (joins_of c.args.tree.now c.requires.rowed c.requires.waiting c.requires.inside))
 
 pub loop-work-init : goal.loop-work-init
 loop-work-init c =
     let H = joins_of c.args.tree.now c.requires.rowed c.requires.waiting c.requires.inside in
-    (H, subst (Worked (joining H) c.args.work.now) (sym c.begin-s.ensures) (worked-first (joining H)))
+    (H, subst (Worked (joining H) c.args.work.now) (sym c.begin-stand.ensures) (worked-first (joining H)))
 
 -- ---- a turn
 
 pub ended-requires : goal.ended-requires
 ended-requires c = (level-now c.loop-work.invariant.1).looked
 
-pub descend-s-requires-clause-looked : goal.descend-s-requires-clause-looked
-descend-s-requires-clause-looked c = (level-now c.loop-work.invariant.1).looked
+pub descend-stand-requires-clause-looked : goal.descend-stand-requires-clause-looked
+descend-stand-requires-clause-looked c = (level-now c.loop-work.invariant.1).looked
 
-pub descend-s-requires-clause-steps : goal.descend-s-requires-clause-steps
-descend-s-requires-clause-steps c = steps-now c.loop-work.invariant.1 (sym c.ended.ensures ∙ c.loop-work-test.true)
+pub descend-stand-requires-clause-steps : goal.descend-stand-requires-clause-steps
+descend-stand-requires-clause-steps c = steps-now c.loop-work.invariant.1 (sym c.ended.ensures ∙ c.loop-work-test.true)
 
-pub descend-s-requires-clause-few : goal.descend-s-requires-clause-few
-descend-s-requires-clause-few c = (level-now c.loop-work.invariant.1).few.0
+pub descend-stand-requires-clause-few : goal.descend-stand-requires-clause-few
+descend-stand-requires-clause-few c = (level-now c.loop-work.invariant.1).few.0
 
 pub meet-requires-clause-level : goal.meet-requires-clause-level
-meet-requires-clause-level c = level-met (contour-lower c.loop-work.invariant.1 (sym c.ended.ensures ∙ c.loop-work-test.true) c.descend-s.ensures)
+meet-requires-clause-level c = level-met (contour-lower c.loop-work.invariant.1 (sym c.ended.ensures ∙ c.loop-work-test.true) c.descend-stand.ensures)
 
 pub meet-requires-clause-need : goal.meet-requires-clause-need
-meet-requires-clause-need c = need-met (contour-lower c.loop-work.invariant.1 (sym c.ended.ensures ∙ c.loop-work-test.true) c.descend-s.ensures)
+meet-requires-clause-need c = need-met (contour-lower c.loop-work.invariant.1 (sym c.ended.ensures ∙ c.loop-work-test.true) c.descend-stand.ensures)
 
 pub meet-requires-clause-modest : goal.meet-requires-clause-modest
-meet-requires-clause-modest c = close-modest (contour-lower c.loop-work.invariant.1 (sym c.ended.ensures ∙ c.loop-work-test.true) c.descend-s.ensures)
+meet-requires-clause-modest c = close-modest (contour-lower c.loop-work.invariant.1 (sym c.ended.ensures ∙ c.loop-work-test.true) c.descend-stand.ensures)
 
-pub overflow_add-s : goal.overflow_add-s
-overflow_add-s c =
-    (moved-held (contour-lower c.loop-work.invariant.1 (sym c.ended.ensures ∙ c.loop-work-test.true) c.descend-s.ensures) c.meet.ensures.amount).fits
+pub overflow_add-stand : goal.overflow_add-stand
+overflow_add-stand c =
+    (moved-held (contour-lower c.loop-work.invariant.1 (sym c.ended.ensures ∙ c.loop-work-test.true) c.descend-stand.ensures) c.meet.ensures.amount).fits
 
 pub loop-work-smaller : goal.loop-work-smaller
 loop-work-smaller c =
-    fewer-lower c.loop-work.invariant.1 (sym c.ended.ensures ∙ c.loop-work-test.true) c.descend-s.ensures
+    fewer-lower c.loop-work.invariant.1 (sym c.ended.ensures ∙ c.loop-work-test.true) c.descend-stand.ensures
 
 pub loop-work-preserved : goal.loop-work-preserved
 loop-work-preserved c = (
   c.loop-work.invariant.0,
-  worked-now (contour-lower c.loop-work.invariant.1 (sym c.ended.ensures ∙ c.loop-work-test.true) c.descend-s.ensures) c.meet.ensures.amount c.meet.ensures.gathered,
+  worked-now (contour-lower c.loop-work.invariant.1 (sym c.ended.ensures ∙ c.loop-work-test.true) c.descend-stand.ensures) c.meet.ensures.amount c.meet.ensures.gathered,
 )
 
 -- ---- past the loop
@@ -72,10 +72,10 @@ thread-default-requires-clause-threads c = threads-wide c.loop-work.invariant.1 
 pub overflow_add-start : goal.overflow_add-start
 overflow_add-start c =
     let K = joining c.loop-work.invariant.0 in
-    (place-held c.loop-work.invariant.1 c.widened.ensures (ap (λ r. r.left) c.begin-s.ensures ∙ start-here K)).fits
+    (place-held c.loop-work.invariant.1 c.widened.ensures (ap (λ r. r.left) c.begin-stand.ensures ∙ start-here K)).fits
 
 pub returns : goal.returns
 returns c =
     let K = joining c.loop-work.invariant.0 in
-    joined-now c.loop-work.invariant.1 c.widened.ensures (ap (λ r. r.left) c.begin-s.ensures ∙ start-here K)
+    joined-now c.loop-work.invariant.1 c.widened.ensures (ap (λ r. r.left) c.begin-stand.ensures ∙ start-here K)
     (sym c.ended.ensures ∙ c.loop-work-test.false) c.thread-default.ensures.default c.thread-default.ensures.threaded c.put.ensures

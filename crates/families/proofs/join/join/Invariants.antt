@@ -9,7 +9,7 @@ use Rattle.families.proofs.join.join.Given as goal
 
 abbrev pub invariant-loop-work : goal.invariant-loop-work
 invariant-loop-work l =
-    (H : Joins (table_of l.tree) (spacing_of l.tree) l.elders.first l.elders.child l.end l.elders.default l.initial.work) × Worked (joining H) l.work l.s
+    (H : Joins (table_of l.tree) (spacing_of l.tree) l.elders.first l.elders.child l.end l.elders.default l.initial.work) × Worked (joining H) l.work l.stand
 
 abbrev pub decreases-loop-work : goal.decreases-loop-work
-decreases-loop-work l = nodes (table_of l.tree) - l.s.child
+decreases-loop-work l = nodes (table_of l.tree) - l.stand.child
