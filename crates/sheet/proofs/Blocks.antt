@@ -1,13 +1,13 @@
 -- A walk over the blocks of a file with a test that stops at the first block that fails. Assumes nothing.
 use mathlib.Core.Path.{◌≡◌, sym, ap, ◌∙◌}
-use Prim.Native.Nat.{ℕ, ◌+◌, ◌≤◌, ◌<◌}
+use Prim.Native.Nat.{ℕ, ◌+◌, ◌<◌}
 use mathlib.Core.Bool.{Bool, true, false, not}
 use mathlib.Core.List.{List}
 use borrow.Author.Tests.{not-true, not-false}
 use Rattle.blocks.specs.Below.{every}
 use Rattle.blocks.specs.Block.{block_count, block_at, IsBlock}
 use Rattle.sheet.specs.Read.{some_block_fails}
-use Rattle.blocks.proofs.Below.{every_more, some-fails, none-fails}
+use Rattle.blocks.proofs.Below.{every_more, some-fails}
 
 -- the test holds for the blocks before block b
 abbrev pub Passed : (ℕ → List ℕ → Bool) → List ℕ → ℕ → Type 0
@@ -24,6 +24,3 @@ module _ (test : ℕ → List ℕ → Bool) (file : List ℕ) where
 
     pub block_passes : Passed test file b → not r ≡ false → Passed test file (b + 1)
     block_passes all h = every_more b _ all (sym answer ∙ not-false r h)
-
-  pub all_pass : (b : ℕ) → b ≤ block_count file → block_count file ≤ b → Passed test file b → false ≡ some_block_fails test file
-  all_pass b l m all = none-fails (block_count file) _ b l m all

@@ -3,7 +3,7 @@ ghost use Rattle.std.specs.Prelude.{◌≡◌, ℕ, ◌<◌, ◌≤◌, Bool, Li
 ghost use Rattle.std.specs.Borrow.{Bor};
 ghost use Rattle.refusal.specs.Number.{number_of};
 ghost use Rattle.blocks.specs.Block.{block_bytes, block_count, IsBlock};
-ghost use Rattle.sheet.specs.Read.{some_block_fails, length_wrong, within, layout_wrong, room_wrong, refusal};
+ghost use Rattle.sheet.specs.Read.{some_block_fails, length_wrong, check_wrong, place_wrong, within, layout_wrong, room_wrong, refusal};
 
 use super::header::{nodes_of, separation_of};
 use super::layout::{MOST_NODES, MOST_SEPARATION, blocks_for, is_laid_out};
@@ -35,6 +35,20 @@ fn some_block_fails<F: Fn(usize, &[u8]) -> bool>(file: &[u8], test: F) -> bool
     false
 }
 
+// Condition 10.
+fn check_wrong(file: &[u8]) -> bool
+    ensures { result ≡ check_wrong file.now }
+{
+    some_block_fails(file, |_place, block| is_sound(block))
+}
+
+// Condition 11.
+fn place_wrong(file: &[u8]) -> bool
+    ensures { result ≡ place_wrong file.now }
+{
+    some_block_fails(file, |place, block| in_place(block, place))
+}
+
 // Whether a number is 1 to the greatest.
 fn is_within(greatest: usize, number: usize) -> bool
     ensures { result ≡ within greatest number }
@@ -64,16 +78,17 @@ fn room_wrong(nodes: usize, table: usize, tapes: usize, widths: usize) -> bool
 }
 
 // The first condition that holds, if one does; `table`, `tapes` and `widths` are the slices' lengths.
+#[tactic(auto, unfolding(crate::specs::Read::refusal))]
 pub fn check_file(file: &[u8], table: usize, tapes: usize, widths: usize) -> Result<(), Refusal>
     ensures { number_of result ≡ refusal file.now table tapes widths }
 {
     if length_wrong(file.len()) {
         return Err(Refusal::FileLength);
     }
-    if some_block_fails(file, |_place, block| is_sound(block)) {
+    if check_wrong(file) {
         return Err(Refusal::BlockCheck);
     }
-    if some_block_fails(file, |place, block| in_place(block, place)) {
+    if place_wrong(file) {
         return Err(Refusal::BlockPlace);
     }
     if layout_wrong(file) {

@@ -1,7 +1,7 @@
 -- `conditions::some_block_fails` says whether a test fails for a block. The invariant: the blocks passed hold. Assumes nothing.
 use Rattle.std.proofs.Common.{refl, ap, arith, not}
 use Rattle.blocks.specs.Below.{every}
-use Rattle.sheet.proofs.Blocks.{block-fails, block_passes, all_pass}
+use Rattle.sheet.proofs.Blocks.{block-fails, block_passes}
 use Rattle.sheet.proofs.conditions.some_block_fails.Goals as goal
 
 pub loop-place-init : goal.loop-place-init
@@ -17,6 +17,3 @@ pub loop-place-preserved : goal.loop-place-preserved
 loop-place-preserved g c =
     λ t is. block_passes t c.args.file.now c.loop-place.place _ _ c.block_at.ensures (is _ _ _ (omega arith) c.block_at.ensures c.test.ensures)
     (c.loop-place.invariant t is) (ap not c.if-not-test.false)
-
-pub returns : goal.returns
-returns g c = λ t is. all_pass t c.args.file.now c.loop-place.place (omega arith) (omega arith) (c.loop-place.invariant t is)
