@@ -1,5 +1,5 @@
 -- The rows of a block, stored one after the other, and the zeros behind them. Assumes nothing.
-use Rattle.std.proofs.Common.{◌≡◌, ℕ, ◌+◌, ◌-◌, ◌*◌, ◌<◌, ◌≤◌, ◌⊎◌, List, length, replicate, take, drop, zero, suc, ◌++◌, append_assoc, sym, refl, ap, ◌∙◌, inl, inr, arith}
+use Rattle.std.proofs.Common.{◌≡◌, ℕ, ◌+◌, ◌-◌, ◌*◌, ◌<◌, ◌≤◌, List, length, replicate, take, drop, zero, suc, ◌++◌, append_assoc, sym, refl, ap, ◌∙◌, arith}
 use lib.ListN.{length-replicate}
 use lib.Seq.{sets, sets-eq, drop-drop}
 use borrow.Rule.Slice.PartMut.{put_mid}
@@ -32,13 +32,9 @@ module _ (n b first r : ℕ) (begins : first ≡ block_rows * b) (from : first �
       let here : r ≡ block_rows * b + (r - first) = omega arith in
       ap node_word here ∙ row_at b (r - first) (omega arith)
 
-  -- a further one, or none
+  -- a further one
   pub one_further : r < n - 1 → node_word r < row_word (block_rows - 1) → r + 1 < first + rows_in n b
   one_further left inside = omega (arith, row_word_lem)
-
-  pub none-further : n - 1 ≤ r ⊎ row_word (block_rows - 1) ≤ node_word r → r + 1 ≡ first + rows_in n b
-  none-further (inl h) = omega arith
-  none-further (inr h) = omega (arith, row_word_lem)
 
 -- zeros are words of 0
 bytes-zeros : (n : ℕ) → bytes_of (replicate n 0) ≡ replicate (2 * n) 0
