@@ -1,5 +1,5 @@
 -- Laws of sums, tests and joined lists over the numbers below n. Assumes nothing.
-use Rattle.std.proofs.Common.{◌≡◌, ℕ, zero, suc, ◌+◌, ◌*◌, ◌<◌, ◌≤◌, Bool, true, false, not, ◌&&◌, List, ◌++◌, length, get_or, take, drop, sym, refl, ap, ◌∙◌, subst, ap₂, ⊎_elim, true≢false, append_assoc, append-nil, le_trans, le_of_eq, le_refl, le_of_suc-le-suc, not-suc-le-zero, add-zero, add-suc, le_antisymm, eq-or-lt_of_le, mul-le-mul_left, lt_of_not-le, mul-zero, mul-suc, add-one, arith, length-append, length-drop, get_or-drop, take_all, get_or-take, take-add, drop_at}
+use Rattle.std.proofs.Common.{◌≡◌, ℕ, zero, suc, ◌+◌, ◌*◌, ◌<◌, ◌≤◌, Bool, true, false, not, ◌&&◌, List, ◌++◌, length, get_or, take, drop, sym, refl, ap, ◌∙◌, ap₂, ⊎_elim, true≢false, append_assoc, append-nil, le_trans, le_of_eq, le_refl, le_of_suc-le-suc, not-suc-le-zero, add-zero, add-suc, eq-or-lt_of_le, mul-le-mul_left, lt_of_not-le, mul-zero, mul-suc, add-one, arith, length-append, length-drop, get_or-drop, take_all, get_or-take, take-add, drop_at}
 use native.Mathlib.Decide.{dec_le}
 use lib.Seq.{drop-append-le, take-append-le}
 use Rattle.blocks.specs.Below.{total, every, joined}
@@ -97,12 +97,9 @@ every-at n p h k l = go (p k) refl
     go true e = e
     go false e = absurd (true≢false (sym h ∙ every-fails n p k l e))
 
--- a search for a failure: found at k, or not found
+-- a search for a failure: found at k
 pub some-fails : (n : ℕ) (p : ℕ → Bool) (k : ℕ) → k < n → p k ≡ false → true ≡ not (every n p)
 some-fails n p k l h = sym (ap not (every-fails n p k l h))
-
-pub none-fails : (n : ℕ) (p : ℕ → Bool) (k : ℕ) → k ≤ n → n ≤ k → every k p ≡ true → false ≡ not (every n p)
-none-fails n p k l m h = sym (ap not (subst (λ (j : ℕ). every j p ≡ true) (le_antisymm l m) h))
 
 pub joined-more : (n : ℕ) (f : ℕ → List ℕ) → joined (n + 1) f ≡ joined n f ++ f n
 unfolding joined

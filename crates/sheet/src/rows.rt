@@ -1,4 +1,5 @@
-// The rows of a sheet, read in node order.
+// The rows of a sheet, read in node order. The three slices stay parameters: each contract over a struct of them would have to say that it
+// keeps its references.
 ghost use Rattle.std.specs.Prelude.{◌≡◌, ◌+◌, ◌*◌, ◌<◌, length};
 ghost use Rattle.sheet.specs.Layout.{first_word};
 ghost use Rattle.sheet.specs.Read.{pair_at};
