@@ -18,7 +18,10 @@ pub fn join(tree: &SpacedTree<'_>, work: &mut [i32], elders: Elders, end: usize)
 {
     let mut stand = begin(work, elders);
     let start = stand.left;
-    while !ended(work, stand) {
+    'contours: loop {
+        if ended(work, stand) {
+            break 'contours;
+        }
         stand = descend(work, stand);
         stand.moved += meet(work, stand, elders);
     }

@@ -7,9 +7,9 @@ use Rattle.families.proofs.Joining.{Joins, joining}
 use Rattle.families.proofs.Worked.{Worked}
 use Rattle.families.proofs.join.join.Given as goal
 
-abbrev pub invariant-loop-work : goal.invariant-loop-work
-invariant-loop-work l =
+abbrev pub invariant-contours : goal.invariant-contours
+invariant-contours l =
     (H : Joins (table_of l.tree) (spacing_of l.tree) l.elders.first l.elders.child l.end l.elders.default l.initial.work) × Worked (joining H) l.work l.stand
 
-abbrev pub decreases-loop-work : goal.decreases-loop-work
-decreases-loop-work l = nodes (table_of l.tree) - l.stand.child
+abbrev pub decreases-contours : goal.decreases-contours
+decreases-contours l = nodes (table_of l.tree) - l.stand.child
