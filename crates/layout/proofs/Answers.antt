@@ -1,17 +1,16 @@
 -- The answers of the layout: its number, what a refusal gives, and what an acceptance gives. Assumes nothing.
 use mathlib.Core.Path.{◌≡◌, refl, sym, ap, ap₂, ◌∙◌, subst}
-use mathlib.Core.Bool.{Bool, false, cond, ◌||◌}
+use mathlib.Core.Bool.{Bool, false, cond}
 use mathlib.Core.List.{List, ◌++◌}
 use Prim.Native.Nat.{ℕ, ◌+◌, ◌*◌, ◌^◌, ◌≤◌, ◌<◌}
 use native.Mathlib.Omega.{arith}
-use lib.Dec.{ltb}
 use lib.IntN.{ℤ, pos}
 use lib.Signed.{mag}
 use lib.ListN.{length, take, drop, replicate, length-replicate, length-map}
 use lib.Seq.{length-take-le}
-use borrow.Author.Tests.{ltb-false, le-ltb}
 use Rattle.std.specs.Prelude.{Result, Err}
 use Rattle.std.specs.Result.{IsErrAnd}
+use Rattle.std.proofs.lemmas.Bool.Decides.{nat_tests}
 use Rattle.std.proofs.lemmas.Result.{err_from_is_err_and}
 use Rattle.refusal.specs.declared.Refusal.{Refusal}
 use Rattle.refusal.specs.First.{first}
@@ -20,14 +19,12 @@ use Rattle.refusal.proofs.After.{granted-accepted, granted-refused, after-accept
 use Rattle.refusal.proofs.Numbers.{number-nonzero}
 use Rattle.refusal.proofs.Laws.{first-refused, first-passed, first_past, none_first, first-none}
 use Rattle.distance.specs.Needed.{needed, bad_separation, bad_half_widths}
-use Rattle.distance.proofs.Separation.{good-separation}
-use Rattle.distance.proofs.HalfWidths.{needed-at_most, first-widths, first-narrow, good-widths}
+use Rattle.distance.proofs.HalfWidths.{needed-at_most, first-widths, first-narrow}
 use Rattle.tree.specs.Numbers.{up_to}
 use Rattle.tree.specs.Table.{nodes}
 use Rattle.tree.specs.Levels.{level, neighbours}
 use Rattle.tree.specs.WellFormed.{table_number}
 use Rattle.tree.proofs.Number.{table-refused, table-passed, table_said}
-use Rattle.refusal.proofs.Truth.{or-false-left, or-false-right, or-false}
 use Rattle.rule.specs.Join.{Spacing, spaced}
 use Rattle.rule.specs.Record.{flat}
 use Rattle.rule.specs.Result.{Slices, Answer, short_results, short_work, layout_number, place, places_of, levels_of, least_of, greatest_of, LaidOut}
@@ -47,11 +44,7 @@ module _ (t : List ℕ) (s : Slices) where
   pub room-enough : nodes t ≤ length s.places → nodes t ≤ length s.levels → 2 * nodes t ≤ length s.the_record → 16 * nodes t ≤ length s.work
       → first (room_conditions t s) ≡ 0
   unfolding short_results short_work
-  room-enough h i j k =
-      none_first (room_conditions t s) (
-        or-false (or-false (le-ltb (length s.places) (nodes t) h) (le-ltb (length s.levels) (nodes t) i)) (le-ltb (length s.the_record) (2 * nodes t) j),
-        (le-ltb (length s.work) (16 * nodes t) k, tt),
-      )
+  room-enough h i j k = grind (arith, nat_tests)
 
 -- with a good separation the half-widths decide
 pub by-widths : (t : List ℕ) (D : ℕ) (hs : List ℕ) → bad_separation D ≡ false → (b : Bool) → bad_half_widths (nodes t) hs ≡ b → first (distance_conditions t D hs) ≡ cond b 17 0
@@ -62,26 +55,19 @@ by-widths t D hs good b e = ap₂ (λ (a w : Bool). cond a 6 (cond w 17 0)) good
 -- where nothing is wrong with the table, the distances and the slices
 module _ (t : List ℕ) (D : ℕ) (hs : List ℕ) (extra : ℕ) (s : Slices) where
   pub nothing-wrong : table_number t ≡ 0 → first (distance_conditions t D hs) ≡ 0 → extra ≤ 1024 → first (room_conditions t s) ≡ 0 → Taken t D hs extra s
-  unfolding short_results short_work
+  unfolding bad_separation bad_half_widths short_results short_work
   nothing-wrong accepted distances little room =
-      let h = first-none (distance_conditions t D hs) (omega arith) distances in
-      let r = first-none (room_conditions t s) (omega arith) room in
-      let six = good-separation D h.0 in
-      let seventeen = good-widths hs (nodes t) h.1.0 in
-      let seven = r.0 in
-      let first_two = or-false-left (ltb (length s.places) (nodes t) || ltb (length s.levels) (nodes t)) (ltb (length s.the_record) (2 * nodes t)) seven in
       record {
         table = accepted;
-        some = six.0;
-        small = six.1;
-        wide = seventeen.0;
-        narrow = seventeen.1;
+        some = grind (arith, nat_tests);
+        small = grind (arith, nat_tests);
+        wide = grind (arith, nat_tests);
+        narrow = grind (arith, nat_tests);
         little = little;
-        places = ltb-false (length s.places) (nodes t) (or-false-left (ltb (length s.places) (nodes t)) (ltb (length s.levels) (nodes t)) first_two);
-        levels = ltb-false (length s.levels) (nodes t) (or-false-right (ltb (length s.places) (nodes t)) (ltb (length s.levels) (nodes t)) first_two);
-        measured = ltb-false (length s.the_record) (2 * nodes t)
-            (or-false-right (ltb (length s.places) (nodes t) || ltb (length s.levels) (nodes t)) (ltb (length s.the_record) (2 * nodes t)) seven);
-        work = ltb-false (length s.work) (16 * nodes t) r.1.0;
+        places = grind (arith, nat_tests);
+        levels = grind (arith, nat_tests);
+        measured = grind (arith, nat_tests);
+        work = grind (arith, nat_tests);
       }
 
 module _ (t : List ℕ) (D : ℕ) (hs : List ℕ) (s : Slices) where
