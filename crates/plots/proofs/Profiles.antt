@@ -6,11 +6,9 @@ use Prim.Native.Nat.{ℕ, suc, ◌+◌, ◌/◌, ◌≤◌, ◌<◌}
 use native.Mathlib.Nat.{zero-add}
 use native.Mathlib.Numerals.{add-one}
 use native.Mathlib.Omega.{arith}
-use lib.Dec.{T}
 use lib.IntN.{ℤ, pos, nat_abs}
 use lib.ListN.{length, get_or, set, replicate, drop, length-set, length-map, get_or-replicate, drop_of_length-le}
 use lib.Seq.{drop-cons, get_or-set_same, get_or-set_other}
-use lib.Signed.{non_neg}
 use Rattle.std.specs.Simd.{first_chunks}
 use Rattle.tree.specs.Numbers.{is, count}
 use Rattle.tree.proofs.Counting.{All, is_same, is-cases}
@@ -51,9 +49,6 @@ module _ (pairs : List (List ℤ)) (profile : List ℕ) (i : ℕ) (C : Counting 
 
     on : level ≡ pos left-next.0.0
     on = read ∙ left-next.0.2
-
-    pub level-signed : T (non_neg level)
-    level-signed = subst⁻¹ (λ (z : ℤ). T (non_neg z)) on tt
 
     pub level_small : nat_abs level < 8
     level_small = subst⁻¹ (λ (z : ℤ). nat_abs z < 8) on left-next.0.1

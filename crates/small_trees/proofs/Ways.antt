@@ -4,7 +4,6 @@ use mathlib.Core.Bool.{Bool, false, not, ◌||◌}
 use mathlib.Core.List.{List, [], ◌∷◌, ◌++◌, map, append-nil}
 use Prim.Native.Nat.{ℕ, zero, suc, ◌+◌, ◌-◌, ◌*◌, ◌/◌, ◌%◌, ◌≤◌, ◌<◌}
 use native.Mathlib.Nat.{not-suc-le-zero, le_of_suc-le-suc}
-use native.Mathlib.Numerals.{add-one}
 use native.Mathlib.Omega.{arith}
 use lib.Dec.{eqb, ltb}
 use lib.ListN.{length, get_or, set, drop, length-append, length-map, length-set}
@@ -14,7 +13,7 @@ use Rattle.refusal.specs.After.{overwrite}
 use Rattle.refusal.proofs.After.{sets_start}
 use Rattle.tree.specs.Numbers.{up_to, any}
 use Rattle.tree.proofs.Tests.{any_false, up_to-all}
-use Rattle.small_trees.specs.SmallTrees.{further, sequences, tree_count, sequence_at, most_nodes}
+use Rattle.small_trees.specs.SmallTrees.{further, sequences, tree_count, sequence_at}
 use Rattle.small_trees.specs.Steps.{Ways, Choice, Chosen, InList}
 use Rattle.small_trees.specs.declared.levels.Branch.{Branch}
 use Rattle.small_trees.specs.declared.levels.TheConstants.{WAYS}
@@ -205,33 +204,6 @@ module _ (place : ℕ) (levels : List ℕ) (L : InList place levels) where
       }
 
 module _ (place n : ℕ) (levels : List ℕ) (behind rest node : ℕ) (F : Filling place n levels behind rest node) where
-  one_more : node < n → n - node ≡ suc (n - 1 - node)
-  one_more h = omega arith
-
-  pub fill_choice : n ≤ most_nodes → node < n → Choice (n - 1 - node) behind rest
-  fill_choice few h = record {
-    few = omega (arith, F.shallow);
-    within = subst (λ (k : ℕ). rest < length (further k behind)) (one_more h) F.within;
-  }
-
-  pub fill_next : node < n → (b : Branch) → Chosen (n - 1 - node) behind rest b
-      → Filling place n (set levels node b.level) b.level b.place (node + 1)
-  fill_next h b C =
-      let left : n - (node + 1) ≡ n - 1 - node = omega arith in
-      record {
-        same = length-set levels node b.level ∙ F.same;
-        some = omega arith;
-        most = omega arith;
-        shallow = omega (arith, C.deep, F.shallow);
-        within = subst (λ (k : ℕ). b.place < length (further k b.level)) (sym left) C.within;
-        whole =
-            ap (λ (k : ℕ). sets (set levels node b.level) (node + 1) (get_or (further k b.level) b.place [])) left
-            ∙ ap (λ (i : ℕ). sets (set levels node b.level) i (get_or (further (n - 1 - node) b.level) b.place [])) (add-one node)
-            ∙ ap (sets levels node) (sym (chosen-here (n - 1 - node) behind rest b C))
-            ∙ ap (λ (k : ℕ). sets levels node (get_or (further k behind) rest [])) (sym (one_more h))
-            ∙ F.whole;
-      }
-
   pub fill_end : n ≤ node → levels ≡ sequence_at n place
   unfolding further
   fill_end h =

@@ -1,6 +1,6 @@
 -- The levels at a place, one after the other, as long as the dots on each level suffice. From the place on, the list begins with the
 -- sequences that go on from the levels stored so far; where one level is too many, all these are passed. Assumes nothing.
-use mathlib.Core.Path.{◌≡◌, refl, sym, ap, ap₂, ◌∙◌, subst, subst⁻¹}
+use mathlib.Core.Path.{◌≡◌, refl, sym, ap, ap₂, ◌∙◌, subst⁻¹}
 use mathlib.Core.Logic.{⊎_elim}
 use mathlib.Core.List.{List, [], ◌∷◌, ◌++◌, map, map-append, map-map, append-nil, append_assoc}
 use Prim.Native.Nat.{ℕ, zero, suc, ◌+◌, ◌-◌, ◌≤◌, ◌<◌}
@@ -12,7 +12,7 @@ use lib.Seq.{get_or-drop, get_or-set_same, get_or-set_other, take-length, take-s
 use Rattle.tree.specs.Numbers.{is, count}
 use Rattle.tree.proofs.Counting.{count-append, is_same, is-cases}
 use Rattle.small_trees.specs.SmallTrees.{further, sequences, tree_count, sequence_at, most_nodes}
-use Rattle.small_trees.specs.Steps.{Choice, Chosen}
+use Rattle.small_trees.specs.Steps.{Chosen}
 use Rattle.small_trees.specs.declared.levels.Branch.{Branch}
 use Rattle.small_trees.proofs.Ways.{drop-map, get_or_within}
 use Rattle.trees_of_dots.specs.Steps.{Descends, Passed}
@@ -74,12 +74,6 @@ module _ (n place : ℕ) (profile left levels : List ℕ) (behind rest node : �
     one_more : n - node ≡ suc (n - 1 - node)
     one_more = omega arith
 
-    pub descend_choice : n ≤ most_nodes → Choice (n - 1 - node) behind rest
-    descend_choice few = record {
-      few = omega (arith, G.shallow);
-      within = subst (λ (k : ℕ). rest < length (further k behind)) one_more G.within;
-    }
-
     module _ (b : Branch) (C : Chosen (n - 1 - node) behind rest b) where
       -- the stored levels, and this one
       abbrev longer : List ℕ
@@ -106,9 +100,6 @@ module _ (n place : ℕ) (profile left levels : List ℕ) (behind rest node : �
 
       pub level-small : n ≤ most_nodes → b.level < 8
       level-small few = omega (arith, C.deep, G.shallow)
-
-      pub ways-few : n ≤ most_nodes → (n - 1 - node) + b.level < 8
-      ways-few few = omega (arith, C.deep, G.shallow)
 
       -- the dots suffice
       pub descend_next : n ≤ most_nodes → 1 ≤ get_or left b.level 0

@@ -39,9 +39,6 @@ pub record Searched (n D : ℕ) (points : List Point) (found : Option Trees) (pl
   pub so_far : found ≡ answer_of (those (fits n D points) (up_to place))
 
 module _ (n D : ℕ) (points : List Point) where
-  pub search_start : Searched n D points None 0
-  search_start = record { within = omega arith; so_far = refl }
-
   pub search_none : ((q : ℕ) → q < tree_count n → fits n D points q ≡ false) → None ≡ answer_of (fitting_places n D points)
   unfolding fitting_places
   search_none none = sym (ap answer_of (none-those (fits n D points) (tree_count n) none))
