@@ -1,6 +1,6 @@
 -- What the conditions say: of an accepted view the centres are whole numbers and the zoom is a whole number of eighths. Assumes nothing.
 use mathlib.Core.Path.{◌≡◌, refl, sym, ap, ap₂, ◌∙◌}
-use mathlib.Core.Bool.{Bool, true, false, not, ◌&&◌, ◌||◌, false≢true}
+use mathlib.Core.Bool.{Bool, true, false, not, ◌&&◌, ◌||◌, cond, false≢true}
 use mathlib.Core.List.{[], ◌∷◌}
 use Prim.Native.Nat.{ℕ, ◌*◌, ◌/◌, ◌%◌, ◌≤◌, ◌<◌}
 use native.Mathlib.Nat.{mul_assoc, mul_right_comm, mul-div_cancel}
@@ -91,6 +91,12 @@ centre-is (fin s m d) e =
 -- ---- the number
 
 module _ (view : View) (place : ℤ) where
+  -- from the four tests
+  pub number_is : (z a d p : Bool) → z ≡ is_zoom view.zoom → a ≡ is_centre view.across → d ≡ is_centre view.down → p ≡ in_range place
+      → cond (not z) 18 (cond (not (a && d && p)) 19 0) ≡ screen_number view place
+  unfolding screen_number
+  number_is z a d p ez ea ed ep = cc
+
   pub record Accepted : Type 0 where
     pub zoom : ZoomIs view.zoom
     pub across : CentreIs view.across

@@ -1,6 +1,6 @@
 -- No place that a layout gives is refused, plain or with an extra space: it is at most 1,569,792 and 511 times the extra space in size, which is
 -- 2,093,056 at most. Assumes nothing.
-use mathlib.Core.Path.{◌≡◌, sym, ◌∙◌}
+use mathlib.Core.Path.{◌≡◌, refl, sym, ◌∙◌}
 use mathlib.Core.Bool.{Bool, true, false, not, cond}
 use mathlib.Core.List.{List}
 use Prim.Native.Nat.{ℕ, ◌<◌}
@@ -13,6 +13,7 @@ use Rattle.layout.proofs.Returned.{Call, place_of, near-returned}
 use Rattle.screen.specs.Screen.{is_zoom, is_centre, in_range, screen_number, OnScreenValues}
 use Rattle.screen.specs.declared.View.{View}
 use Rattle.screen.specs.declared.Values.{Values}
+use Rattle.screen.proofs.Conditions.{number_is}
 use Rattle.screen.proofs.Returned.{number-returned}
 
 module _ {t : List ℕ} {D : ℕ} {hs : List ℕ} {extra : ℕ} {s : Slices} {a : Answer} {u : Slices} (C : Call t D hs extra s a u) where
@@ -23,8 +24,9 @@ module _ {t : List ℕ} {D : ℕ} {hs : List ℕ} {extra : ℕ} {s : Slices} {a 
   -- by a view whose centres pass, such a place does not give 19
   module _ (view : View) (across : is_centre view.across ≡ true) (down : is_centre view.down ≡ true) (v : ℕ) (h : v < nodes t) where
     laid-number : screen_number view (place_of u v) ≡ 19 → ⊥
-    unfolding screen_number
-    laid-number e = other (is_zoom view.zoom) (rw (across, down, laid-in_range v h) at e)
+    laid-number e =
+        other (is_zoom view.zoom)
+        (number_is view (place_of u v) (is_zoom view.zoom) true true true refl (sym across) (sym down) (sym (laid-in_range v h)) ∙ e)
       where
         other : (z : Bool) → ◌≡◌ {A = ℕ} (cond (not z) 18 0) 19 → ⊥
         other true e = omega arith
