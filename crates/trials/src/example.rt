@@ -5,8 +5,7 @@ ghost use Rattle.std.specs.Prelude.{◌<◌};
 fn put(file: &mut [u8; 1024], word: usize, value: u16)
     requires { word < 512 }
 {
-    file[2 * word] = (value % 256) as u8;
-    file[2 * word + 1] = (value / 256) as u8;
+    file[2 * word..2 * word + 2].copy_from_slice(&value.to_le_bytes());
 }
 
 // A node's row, from a word on.
