@@ -18,6 +18,15 @@ ghost use Rattle.treetex.specs.TreeTeX.{TreeTeX};
 
 use refusal::Refusal;
 
+// What a refused layout gives.
+const NOTHING_DRAWN: layout::Drawn = layout::Drawn {
+    nodes: 0,
+    levels: 0,
+    least: 0,
+    greatest: 0,
+    pairs: 0,
+};
+
 // The number of an answer, and what it has: what was given, and else what a refusal gives.
 fn told<T: Copy>(answer: Result<T, Refusal>, refused: T) -> (u16, T)
     ensures number { result.0 ≡ number_of answer }
@@ -55,7 +64,8 @@ pub extern "C" fn hiwenoka_layout(
 ) -> u16
     ensures { Layout table.now separation widths.now (slices places.old levels.old measured.old work.old) (answer result nodes.new level_count.new least.new greatest.new pairs.new) (slices places.new levels.new measured.new work.new) }
 {
-    let drawn = layout::layout(table, separation, widths, places, levels, measured, work);
+    let laid = layout::layout(table, separation, widths, places, levels, measured, work);
+    let (number, drawn) = told(laid, NOTHING_DRAWN);
     *nodes = drawn.nodes;
     *level_count = drawn.levels;
     let leftmost = drawn.least;
@@ -63,7 +73,7 @@ pub extern "C" fn hiwenoka_layout(
     let rightmost = drawn.greatest;
     *greatest = rightmost;
     *pairs = drawn.pairs;
-    drawn.number
+    number
 }
 
 #[unsafe(no_mangle)]
@@ -87,14 +97,13 @@ pub extern "C" fn hiwenoka_layout_treetex(
     let laid = treetex::layout_treetex(
         table, separation, widths, extra, places, levels, measured, work,
     );
-    *nodes = laid.nodes;
-    *level_count = laid.levels;
-    let first = laid.least;
-    *least = first;
-    let last = laid.greatest;
-    *greatest = last;
-    *pairs = laid.pairs;
-    laid.number
+    let (number, spread) = told(laid, NOTHING_DRAWN);
+    *nodes = spread.nodes;
+    *level_count = spread.levels;
+    *least = spread.least;
+    *greatest = spread.greatest;
+    *pairs = spread.pairs;
+    number
 }
 
 #[unsafe(no_mangle)]
@@ -123,7 +132,10 @@ pub extern "C" fn hiwenoka_read_sheet(
     ensures { SheetRead file.now table.old tapes.old widths.old (record { number = result; nodes = nodes.new; separation = separation.new }) table.new tapes.new widths.new }
 {
     let read = sheet::read_sheet(file, table, tapes, widths);
-    let none = sheet::Sheet { nodes: 0, separation: 0 };
+    let none = sheet::Sheet {
+        nodes: 0,
+        separation: 0,
+    };
     let (number, sheet) = told(read, none);
     *nodes = sheet.nodes;
     *separation = sheet.separation;
@@ -155,9 +167,12 @@ pub extern "C" fn hiwenoka_write_sheet(
 ) -> u16
     ensures { SheetWritten table.now separation tapes.now widths.now out.old (record { number = result; bytes = bytes.new }) out.new }
 {
-    let written = writer::write_sheet(table, separation, tapes, widths, out);
-    *bytes = written.bytes;
-    written.number
+    let (number, written) = told(
+        writer::write_sheet(table, separation, tapes, widths, out),
+        0,
+    );
+    *bytes = written;
+    number
 }
 
 #[unsafe(no_mangle)]
@@ -206,9 +221,8 @@ pub extern "C" fn hiwenoka_trees_of_dots(
 ) -> u16
     ensures { TreesOfDotsValues nodes dots.now separation (record { number = result; lowest = lowest.new; count = count.new }) }
 {
-    let found = trees_of_dots::trees_of_dots(nodes, dots, separation);
-    let fitting = found.fitting;
-    let values = trees_of_dots::values_of(found.number, fitting);
+    let (number, found) = told(trees_of_dots::trees_of_dots(nodes, dots, separation), None);
+    let values = trees_of_dots::values_of(number, found);
     *lowest = values.lowest;
     *count = values.count;
     values.number

@@ -56,11 +56,11 @@ module _ (t : List ℕ) (D : ℕ) (hs : List ℕ) {s u : Slices} {a : Answer} (L
   number_decided = L.number ∙ decides
 
   -- a refusal
-  pub refused-listed : (tapes : List ℕ) {old new : List ℕ} {k : ℕ} → text_room ≤ length old → (a.number ≡ 0 → ⊥) → RefusalPrinted a.number old k new
-      → Printed (table_text D t tapes hs) old k new
+  pub refused-listed : {told k : ℕ} (tapes : List ℕ) {old new : List ℕ} → text_room ≤ length old → (a.number ≡ 0 → ⊥) → told ≡ a.number
+      → RefusalPrinted told old k new → Printed (table_text D t tapes hs) old k new
   unfolding table_text
-  refused-listed tapes room h p =
-      refusal-shown a.number room (ap refused_line number_decided ∙ sym (text_refused (drawing_number t hs) (drawn_listing D t tapes hs) (λ e. h (number_decided ∙ e)))) p
+  refused-listed {told} tapes room h is p =
+      refusal-shown told room (ap refused_line (is ∙ number_decided) ∙ sym (text_refused (drawing_number t hs) (drawn_listing D t tapes hs) (λ e. h (number_decided ∙ e)))) p
 
   -- an acceptance
   module _ (e : a.number ≡ 0) where

@@ -26,7 +26,7 @@ fn list_table(
     let mut levels = [0u16; 1024];
     let mut measured = [0u16; 2048];
     let mut work = [0i32; 16384];
-    let drawn = layout::layout(
+    let laid = layout::layout(
         table,
         separation,
         widths,
@@ -35,21 +35,23 @@ fn list_table(
         &mut measured,
         &mut work,
     );
-    if drawn.number != 0 {
-        return lines::write_refusal(drawn.number, out);
+    match laid {
+        Ok(drawn) => {
+            let n = drawn.nodes as usize;
+            lines::write_listing(
+                drawn.nodes,
+                drawn.levels,
+                separation,
+                drawn.least,
+                drawn.greatest,
+                &levels[..n],
+                &places[..n],
+                tapes,
+                out,
+            )
+        }
+        Err(refused) => lines::write_refusal(refused.number(), out),
     }
-    let n = drawn.nodes as usize;
-    lines::write_listing(
-        drawn.nodes,
-        drawn.levels,
-        separation,
-        drawn.least,
-        drawn.greatest,
-        &levels[..n],
-        &places[..n],
-        tapes,
-        out,
-    )
 }
 
 // Writes what is printed for a file to the start of `out` and gives the number of its bytes: the listing of its sheet, or the line of a

@@ -1,0 +1,2 @@
+-- What an answer has, in plain fields. Stands on all crates below.
+pub mod Fields
