@@ -28,7 +28,7 @@ pub struct Drawn {
 pub fn check_distances(table: &[u16], separation: u16, widths: &[u16]) -> Result<(), Refusal>
     ensures { number_of result ≡ first (distance_conditions table.now separation widths.now) }
 {
-    if separation < 1 || 1024 < separation {
+    if !(1..=1024).contains(&separation) {
         return Err(Refusal::Separation);
     }
     let n = table.len() / 2;
