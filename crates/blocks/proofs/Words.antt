@@ -1,7 +1,9 @@
 -- Words and their bytes, the blocks of a file, and the block that uses some words. Assumes nothing.
-use Rattle.std.proofs.Common.{◌≡◌, ℕ, zero, suc, ◌+◌, ◌-◌, ◌*◌, ◌/◌, ◌%◌, ◌<◌, ◌≤◌, true, ◌&&◌, eqb, List, [], ◌∷◌, ◌++◌, length, get_or, take, drop, replicate, sym, refl, ap, ◌∙◌, ap₂, arith, length-append, length-drop, length-take, length-take-le, get_or-drop, get_or-take, eq-eqb, eqb-true}
+use Rattle.std.proofs.Common.{◌≡◌, ℕ, zero, suc, ◌+◌, ◌-◌, ◌*◌, ◌/◌, ◌%◌, ◌<◌, ◌≤◌, true, ◌&&◌, eqb, List, [], ◌∷◌, ◌++◌, length, get_or, take, drop, replicate, sym, refl, ap, ◌∙◌, ap₂, mul-zero, mul-suc, arith, length-append, length-drop, length-take, length-take-le, get_or-drop, get_or-take, eq-eqb, eqb-true}
 use lib.ListN.{length-replicate, get_or-append, get_or-eq_default}
 use lib.Seq.{get_or_at}
+use Rattle.std.specs.Simd.{first_chunks}
+use Rattle.std.proofs.lemmas.List.{drop-drop}
 use Rattle.refusal.proofs.Truth.{and_left, and_right}
 use Rattle.blocks.specs.Block.{block_words, block_bytes, word_limit, weighted_place, closing_place, word_at, bytes_of, block_at, listed, word_sum, weighted_sum, sound, closes, closing, padded, weighed, closed, EachBelow}
 use Rattle.blocks.proofs.Below.{split, total-more, total_cong}
@@ -50,6 +52,14 @@ bytes-words (w ∷ ws) (x ∷ y ∷ block) size fits same =
 pub word_below : (block : List ℕ) (k : ℕ) → EachBelow 256 block → word_at block k < word_limit
 unfolding word_at
 word_below block k fits = omega (arith, fits (2 * k), fits (2 * k + 1))
+
+-- chunk i of a slice's chunks of n
+pub chunk_at : (n count i : ℕ) (xs : List ℕ) → i < count → get_or (first_chunks n count xs) i [] ≡ take n (drop (n * i) xs)
+chunk_at n zero i xs l = absurd (omega arith)
+chunk_at n (suc count) zero xs l = rw mul-zero refl
+chunk_at n (suc count) (suc i) xs l =
+    let place : n + n * i ≡ n * suc i = omega (arith, mul-suc n i) in
+    chunk_at n count i (drop n xs) (omega arith) ∙ ap (take n) (drop-drop (n * i) n xs ∙ ap (λ (from : ℕ). drop from xs) place)
 
 -- a block of a file is whole, and made of the file's bytes
 pub length-block : (file : List ℕ) (b : ℕ) → block_bytes * b + block_bytes ≤ length file → length (block_at file b) ≡ block_bytes

@@ -6,7 +6,7 @@ ghost use Rattle.blocks.specs.Block.{block_bytes, weighted_place, word_at, sound
 ghost use Rattle.blocks.specs.Sums.{lane_count, lane, Summed, More, Grouped, Together};
 ghost use Rattle.blocks.specs.declared.check.Sums.{Sums};
 
-use super::{CLOSING_PLACE, WEIGHTED_PLACE, word};
+use super::{Block, CLOSING_PLACE, WEIGHTED_PLACE, word};
 
 // The sums of some words. Both wrap.
 #[derive(Clone, Copy)]
@@ -102,8 +102,7 @@ pub fn sums_of(block: &[u8]) -> Sums
 }
 
 // Whether a block's check is right.
-pub fn is_sound(block: &[u8]) -> bool
-    requires { length block.now ≡ block_bytes }
+pub fn is_sound(block: &Block) -> bool
     ensures { result ≡ sound block.now }
 {
     let sums = sums_of(block);

@@ -8,6 +8,8 @@ pub mod check;
 
 pub const BLOCK_BYTES: usize = 512;
 
+pub type Block = [u8; BLOCK_BYTES];
+
 // The places of the check words: of the weighted sum, and of the closing word.
 pub const WEIGHTED_PLACE: usize = 254;
 
@@ -23,18 +25,17 @@ pub fn word(block: &[u8], place: usize) -> u16
 }
 
 // Block `place` of a file.
-pub fn block_at(file: &[u8], place: usize) -> &[u8]
+pub fn block_at(file: &[u8], place: usize) -> &Block
     requires { block_bytes * place + block_bytes ≤ length file.now }
     ensures { IsBlock file.now place result.now }
 {
-    let start = BLOCK_BYTES * place;
-    &file[start..start + BLOCK_BYTES]
+    let (blocks, _) = file.as_chunks::<BLOCK_BYTES>();
+    &blocks[place]
 }
 
 // Whether a block's first word is `place`.
 #[tactic(auto, unfolding(crate::specs::Block::in_place))]
-pub fn in_place(block: &[u8], place: usize) -> bool
-    requires { length block.now ≡ block_bytes }
+pub fn in_place(block: &Block, place: usize) -> bool
     ensures { result ≡ in_place place block.now }
 {
     usize::from(word(block, 0)) == place

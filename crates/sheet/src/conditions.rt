@@ -8,7 +8,7 @@ ghost use Rattle.sheet.specs.Read.{some_block_fails, length_wrong, check_wrong, 
 use super::header::{nodes_of, separation_of};
 use super::layout::{MOST_NODES, MOST_SEPARATION, blocks_for, is_laid_out};
 use blocks::check::is_sound;
-use blocks::{BLOCK_BYTES, block_at, in_place};
+use blocks::{BLOCK_BYTES, Block, block_at, in_place};
 use refusal::Refusal;
 
 const LEAST_BYTES: usize = 1024;
@@ -23,7 +23,7 @@ fn length_wrong(bytes: usize) -> bool
 }
 
 // Whether a test fails for a block of the file. It is given the block and its place.
-fn some_block_fails<F: Fn(usize, &[u8]) -> bool>(file: &[u8], test: F) -> bool
+fn some_block_fails<F: Fn(usize, &Block) -> bool>(file: &[u8], test: F) -> bool
     requires { (place : ℕ) (block : Bor (List ℕ)) → place < block_count file.now → IsBlock file.now place block.now → F.pre test place block }
     ensures { (t : ℕ → List ℕ → Bool) → ((place : ℕ) (block : Bor (List ℕ)) (r : Bool) → place < block_count file.now → IsBlock file.now place block.now → F.post test place block r → r ≡ t place block.now) → result ≡ some_block_fails t file.now }
 {
@@ -70,10 +70,10 @@ fn layout_wrong(file: &[u8]) -> bool
 }
 
 // Condition 7; `table`, `tapes` and `widths` are the slices' lengths.
-fn room_wrong(nodes: usize, table: usize, tapes: usize, widths: usize) -> bool
-    requires { nodes < 65536 }
+fn room_wrong(nodes: u16, table: usize, tapes: usize, widths: usize) -> bool
     ensures { result ≡ room_wrong nodes table tapes widths }
 {
+    let nodes = usize::from(nodes);
     table < 2 * nodes || tapes < 2 * nodes || widths < nodes
 }
 
@@ -94,7 +94,7 @@ pub fn check_file(file: &[u8], table: usize, tapes: usize, widths: usize) -> Res
     if layout_wrong(file) {
         return Err(Refusal::SheetLayout);
     }
-    if room_wrong(usize::from(nodes_of(file)), table, tapes, widths) {
+    if room_wrong(nodes_of(file), table, tapes, widths) {
         return Err(Refusal::OutputRoom);
     }
     Ok(())

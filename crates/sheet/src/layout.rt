@@ -1,9 +1,9 @@
 // The layout of a sheet of n nodes: its blocks, their rows, and the words that are fixed.
-ghost use Rattle.std.specs.Prelude.{◌≡◌, ◌+◌, ◌<◌, ◌≤◌, min, length};
-ghost use Rattle.blocks.specs.Block.{block_bytes, weighted_place};
+ghost use Rattle.std.specs.Prelude.{◌≡◌, ◌+◌, ◌<◌, ◌≤◌, min};
+ghost use Rattle.blocks.specs.Block.{weighted_place};
 ghost use Rattle.sheet.specs.Layout.{first_word, header_mark, header_words, block_rows, row_word, blocks_for, fixed_hold, laid_out};
 
-use blocks::{WEIGHTED_PLACE, word};
+use blocks::{Block, WEIGHTED_PLACE, word};
 
 pub const MOST_NODES: usize = 1024;
 
@@ -25,10 +25,9 @@ pub const HEADER_WORDS: usize = 2;
 
 // How many blocks a sheet takes.
 pub fn blocks_for(nodes: usize) -> usize
-    requires { nodes < 65536 }
     ensures { result ≡ blocks_for nodes }
 {
-    1 + (nodes + (BLOCK_ROWS - 1)) / BLOCK_ROWS
+    1 + nodes.div_ceil(BLOCK_ROWS)
 }
 
 // How many rows a block holds, where `left` nodes are left for it and the blocks after it.
@@ -39,9 +38,8 @@ pub fn rows_of(left: usize) -> usize
 }
 
 // Whether word 1 is `count` and the words from `used` to the check words are 0.
-fn fixed_hold(block: &[u8], count: usize, used: usize) -> bool
-    requires block_len { length block.now ≡ block_bytes }
-    requires lt_used { (1 < used) × (used ≤ weighted_place) }
+fn fixed_hold(block: &Block, count: usize, used: usize) -> bool
+    requires { (1 < used) × (used ≤ weighted_place) }
     ensures { result ≡ fixed_hold count used block.now }
 {
     if usize::from(word(block, 1)) != count {
@@ -56,25 +54,23 @@ fn fixed_hold(block: &[u8], count: usize, used: usize) -> bool
 }
 
 // Whether the header has every word that the layout fixes.
-pub fn header_laid(block: &[u8]) -> bool
-    requires { length block.now ≡ block_bytes }
+pub fn header_laid(block: &Block) -> bool
     ensures { result ≡ fixed_hold header_mark (first_word + header_words) block.now }
 {
     fixed_hold(block, HEADER_MARK, FIRST_WORD + HEADER_WORDS)
 }
 
 // Whether a block of so many rows has every word that the layout fixes.
-pub fn rows_laid(block: &[u8], rows: usize) -> bool
-    requires { (length block.now ≡ block_bytes) × (rows ≤ block_rows) }
+pub fn rows_laid(block: &Block, rows: usize) -> bool
+    requires { rows ≤ block_rows }
     ensures { result ≡ fixed_hold rows (row_word rows) block.now }
 {
     fixed_hold(block, rows, FIRST_WORD + ROW_WORDS * rows)
 }
 
 // Whether block `place` of a sheet of so many nodes has every word that the layout fixes.
-pub fn is_laid_out(nodes: usize, place: usize, block: &[u8]) -> bool
-    requires block_len { length block.now ≡ block_bytes }
-    requires place_bound { place < 65536 }
+pub fn is_laid_out(nodes: usize, place: usize, block: &Block) -> bool
+    requires { place < 65536 }
     ensures { result ≡ laid_out nodes place block.now }
 {
     if place == 0 {

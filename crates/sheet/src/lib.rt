@@ -36,6 +36,6 @@ pub fn read_sheet(
     check_file(file, table.len(), tapes.len(), widths.len())?;
     let nodes = nodes_of(file);
     let separation = separation_of(file);
-    read_rows(file, usize::from(nodes), table, tapes, widths);
+    read_rows(file, nodes, table, tapes, widths);
     Ok(Sheet { nodes, separation })
 }

@@ -40,17 +40,17 @@ fn read_row(file: &[u8], at: RowPlace, table: &mut [u16], tapes: &mut [u16], wid
 fn read_block(
     file: &[u8],
     from: RowPlace,
-    nodes: usize,
+    nodes: u16,
     table: &mut [u16],
     tapes: &mut [u16],
     widths: &mut [u16],
 ) -> RowPlace
-    requires on_row { (OnRow from) × (from.word ≡ first_word) × (from.node < nodes) × (nodes < 65536) }
+    requires on_row { (OnRow from) × (from.word ≡ first_word) × (from.node < nodes) }
     requires room { Room nodes file.now table.old tapes.old widths.old }
     requires rows_read { RowsRead file.now from.node table.old tapes.old widths.old table.old tapes.old widths.old }
     ensures { BlockRead file.now from nodes table.old tapes.old widths.old result table.new tapes.new widths.new }
 {
-    let last = nodes - 1;
+    let last = usize::from(nodes) - 1;
     let mut at = RowPlace {
         node: from.node,
         block: from.block,
@@ -65,19 +65,12 @@ fn read_block(
 }
 
 // Reads the rows of all nodes.
-pub fn read_rows(
-    file: &[u8],
-    nodes: usize,
-    table: &mut [u16],
-    tapes: &mut [u16],
-    widths: &mut [u16],
-)
-    requires nodes_bound { nodes < 65536 }
-    requires room { Room nodes file.now table.old tapes.old widths.old }
+pub fn read_rows(file: &[u8], nodes: u16, table: &mut [u16], tapes: &mut [u16], widths: &mut [u16])
+    requires { Room nodes file.now table.old tapes.old widths.old }
     ensures { RowsRead file.now nodes table.old tapes.old widths.old table.new tapes.new widths.new }
 {
     let mut at = first_row();
-    while at.node < nodes {
+    while at.node < usize::from(nodes) {
         at = read_block(file, at, nodes, table, tapes, widths);
     }
 }

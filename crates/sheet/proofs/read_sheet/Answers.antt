@@ -17,13 +17,10 @@ nodes_of-nodes-requires c = omega (arith, accepted _ _ _ _ (sym c.in_ok-check_fi
 pub separation_of-separation-requires : goal.separation_of-separation-requires
 separation_of-separation-requires c = omega (arith, accepted _ _ _ _ (sym c.in_ok-check_file.ensures))
 
-pub read_rows-requires-clause-room : goal.read_rows-requires-clause-room
-read_rows-requires-clause-room c =
-    let in_order = accepted _ _ _ _ (sym c.in_ok-check_file.ensures) in
-    rw (c.from.ensures, c.nodes_of-nodes.ensures) (omega (arith, in_order))
+pub read_rows-requires : goal.read_rows-requires
+read_rows-requires c = rw c.nodes_of-nodes.ensures (omega (arith, accepted _ _ _ _ (sym c.in_ok-check_file.ensures)))
 
 pub returns : goal.returns
 returns c =
     let a = c.args in
-    accepted-read a.file.now a.table.now a.tapes.now a.widths.now _ _ _ _ _ (sym c.in_ok-check_file.ensures) c.nodes_of-nodes.ensures c.separation_of-separation.ensures
-    (rw c.from.ensures at c.read_rows.ensures)
+    accepted-read a.file.now a.table.now a.tapes.now a.widths.now _ _ _ _ _ (sym c.in_ok-check_file.ensures) c.nodes_of-nodes.ensures c.separation_of-separation.ensures c.read_rows.ensures

@@ -16,8 +16,8 @@ pub read_block-at-requires : goal.read_block-at-requires
 read_block-at-requires c =
     let inv = c.loop-at.invariant in
     record {
-      on_row = (inv.0, inv.2 c.loop-at-test.true, omega arith, c.requires.nodes_bound);
-      room = room-kept _ _ _ _ _ _ _ _ inv.3 c.args.nodes c.args.nodes (le_refl _) inv.1 c.requires.room;
+      on_row = (inv.0, inv.2 (omega arith), omega arith);
+      room = room-kept _ _ _ _ _ _ _ _ inv.3 c.args.nodes c.args.nodes (le_refl _) inv.1 c.requires;
       rows_read = rows-there _ _ _ _ _ _ _ _ inv.3;
     }
 
@@ -40,5 +40,5 @@ shape_of-widths c = half_widths-kept _ _ _ _ _ _ _ _ c.loop-at.invariant.3 (omeg
 
 pub returns : goal.returns
 returns c =
-    let all = le_antisymm c.loop-at.invariant.1 c.loop-at-test.false in
+    let all = le_antisymm c.loop-at.invariant.1 (omega arith) in
     rw (← all) c.loop-at.invariant.3
