@@ -1,14 +1,14 @@
 // The conditions 9, 10, 11, 12 and 7 of the reader.
-ghost use Rattle.std.specs.Prelude.{◌≡◌, ℕ, ◌<◌, ◌≤◌, Bool, List, length};
+ghost use Rattle.std.specs.Prelude.{◌≡◌, ℕ, ◌≤◌, Bool, List, length};
 ghost use Rattle.std.specs.Borrow.{Bor};
 ghost use Rattle.refusal.specs.Number.{number_of};
-ghost use Rattle.blocks.specs.Block.{block_bytes, block_count, IsBlock};
+ghost use Rattle.blocks.specs.Block.{block_bytes};
 ghost use Rattle.sheet.specs.Read.{some_block_fails, length_wrong, check_wrong, place_wrong, within, layout_wrong, room_wrong, refusal};
 
 use super::header::{nodes_of, separation_of};
 use super::layout::{MOST_NODES, MOST_SEPARATION, blocks_for, is_laid_out};
 use blocks::check::is_sound;
-use blocks::{BLOCK_BYTES, Block, block_at, in_place};
+use blocks::{BLOCK_BYTES, Block, in_place};
 use refusal::Refusal;
 
 const LEAST_BYTES: usize = 1024;
@@ -24,15 +24,14 @@ fn length_wrong(bytes: usize) -> bool
 
 // Whether a test fails for a block of the file. It is given the block and its place.
 fn some_block_fails<F: Fn(usize, &Block) -> bool>(file: &[u8], test: F) -> bool
-    requires { (place : ℕ) (block : Bor (List ℕ)) → place < block_count file.now → IsBlock file.now place block.now → F.pre test place block }
-    ensures { (t : ℕ → List ℕ → Bool) → ((place : ℕ) (block : Bor (List ℕ)) (r : Bool) → place < block_count file.now → IsBlock file.now place block.now → F.post test place block r → r ≡ t place block.now) → result ≡ some_block_fails t file.now }
+    requires { F.IsAlwaysCallable test }
+    ensures { (t : ℕ → List ℕ → Bool) → ((place : ℕ) (block : Bor (List ℕ)) (r : Bool) → F.post test place block r → r ≡ t place block.now) → result ≡ some_block_fails t file.now }
 {
-    for place in 0..file.len() / BLOCK_BYTES {
-        if !test(place, block_at(file, place)) {
-            return true;
-        }
-    }
-    false
+    let (blocks, _) = file.as_chunks::<BLOCK_BYTES>();
+    blocks
+        .iter()
+        .enumerate()
+        .any(|(place, block)| !test(place, block))
 }
 
 // Condition 10.

@@ -70,13 +70,12 @@ pub fn rows_laid(block: &Block, rows: usize) -> bool
 
 // Whether block `place` of a sheet of so many nodes has every word that the layout fixes.
 pub fn is_laid_out(nodes: usize, place: usize, block: &Block) -> bool
-    requires { place < 65536 }
     ensures { result ≡ laid_out nodes place block.now }
 {
     if place == 0 {
         header_laid(block)
     } else {
-        let left = nodes.saturating_sub(BLOCK_ROWS * (place - 1));
+        let left = nodes.saturating_sub(BLOCK_ROWS.saturating_mul(place - 1));
         rows_laid(block, rows_of(left))
     }
 }
