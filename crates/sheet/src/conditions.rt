@@ -8,7 +8,7 @@ ghost use Rattle.sheet.specs.Read.{some_block_fails, length_wrong, check_wrong, 
 use super::header::{nodes_of, separation_of};
 use super::layout::{MOST_NODES, MOST_SEPARATION, blocks_for, is_laid_out};
 use blocks::check::is_sound;
-use blocks::{BLOCK_BYTES, Block, in_place};
+use blocks::{BLOCK_BYTES, Block, block_at, in_place};
 use refusal::Refusal;
 
 const LEAST_BYTES: usize = 1024;
@@ -27,11 +27,12 @@ fn some_block_fails<F: Fn(usize, &Block) -> bool>(file: &[u8], test: F) -> bool
     requires { F.IsAlwaysCallable test }
     ensures { (t : ℕ → List ℕ → Bool) → ((place : ℕ) (block : Bor (List ℕ)) (r : Bool) → F.post test place block r → r ≡ t place block.now) → result ≡ some_block_fails t file.now }
 {
-    let (blocks, _) = file.as_chunks::<BLOCK_BYTES>();
-    blocks
-        .iter()
-        .enumerate()
-        .any(|(place, block)| !test(place, block))
+    for place in 0..file.len() / BLOCK_BYTES {
+        if !test(place, block_at(file, place)) {
+            return true;
+        }
+    }
+    false
 }
 
 // Condition 10.

@@ -25,9 +25,10 @@ pub const HEADER_WORDS: usize = 2;
 
 // How many blocks a sheet takes.
 pub fn blocks_for(nodes: usize) -> usize
+    requires { nodes < 65536 }
     ensures { result ≡ blocks_for nodes }
 {
-    1 + nodes.div_ceil(BLOCK_ROWS)
+    1 + (nodes + (BLOCK_ROWS - 1)) / BLOCK_ROWS
 }
 
 // How many rows a block holds, where `left` nodes are left for it and the blocks after it.

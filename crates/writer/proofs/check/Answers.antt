@@ -43,6 +43,9 @@ returns-then-half_widths_wrong-clause-number c =
     number_17 a.table.now a.separation a.tapes.now a.widths.now a.out.now accepted good enough
     (rw count at (sym c.half_widths_wrong.ensures ∙ c.if-half_widths_wrong.true))
 
+pub blocks_for-requires : goal.blocks_for-requires
+blocks_for-requires c = omega (arith, (accepted-numbers c.in_ok-tree.tree.entries.now c.in_ok-tree.tree.well_formed).few)
+
 pub overflow_mul-blocks_for : goal.overflow_mul-blocks_for
 overflow_mul-blocks_for c = omega (arith, c.blocks_for.ensures, (accepted-numbers c.in_ok-tree.tree.entries.now c.in_ok-tree.tree.well_formed).few)
 

@@ -126,6 +126,11 @@ loop-at-preserved c =
           (omega (arith, inside, same, size)) (front-written _ _ _ _ _ fits _ _ _ size inv.0 inv.1 inv.2 left) c.write_block-at.ensures.block_after),
     )
 
+pub blocks_for-requires : goal.blocks_for-requires
+blocks_for-requires c =
+    let few = (accepted-numbers c.args.rows.tree.entries.now c.args.rows.tree.well_formed).few in
+    omega arith
+
 pub overflow_mul-result : goal.overflow_mul-result
 overflow_mul-result c =
     let few = (accepted-numbers c.args.rows.tree.entries.now c.args.rows.tree.well_formed).few in

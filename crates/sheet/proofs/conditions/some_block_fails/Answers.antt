@@ -1,14 +1,24 @@
--- `conditions::some_block_fails` says whether a test fails for a block. Assumes nothing.
-use Rattle.std.proofs.Common.{rules, tests, ◌∙◌, not}
-use Rattle.std.proofs.lemmas.Iterator.{YieldsList-from_slice}
-use Rattle.std.proofs.lemmas.Iterator.Consumers.{YieldsList-from_enumerate}
-use Rattle.std.proofs.lemmas.Iterator.Search.{any_from_yields_List}
-use Rattle.sheet.proofs.Blocks.{some_block}
+-- `conditions::some_block_fails` says whether a test fails for a block. The invariant: the blocks passed hold. Assumes nothing.
+use Rattle.std.proofs.Common.{◌≡◌, sym, refl, ap, arith, not}
+use Rattle.blocks.specs.Below.{every}
+use Rattle.blocks.specs.Block.{block_count}
+use Rattle.sheet.proofs.Blocks.{block-fails, block_passes}
 use Rattle.sheet.proofs.conditions.some_block_fails.Goals as goal
+
+pub loop-place-init : goal.loop-place-init
+unfolding every
+loop-place-init g c = (c.requires, λ t is. refl)
+
+pub returns-then-not-test : goal.returns-then-not-test
+returns-then-not-test g c =
+    λ t is. block-fails t c.args.file.now c.loop-place.place _ _ c.block_at.ensures (is _ _ _ c.test.ensures)
+    (omega arith) (ap not c.if-not-test.true)
+
+pub loop-place-preserved : goal.loop-place-preserved
+loop-place-preserved g c =
+    (c.loop-place.invariant.0, λ t is. block_passes t c.args.file.now c.loop-place.place _ _ c.block_at.ensures (is _ _ _ c.test.ensures) (c.loop-place.invariant.1 t is) (ap not c.if-not-test.false))
 
 pub returns : goal.returns
 returns g c = λ t is.
-    any_from_yields_List (λ p. not (t p.0 p.1)) c.any.new.self _ _ c.any.ensures.ran
-    (YieldsList-from_enumerate {s = c.enumerate.result} (YieldsList-from_slice c.as_chunks.result.0.now (cc)) (cc))
-    (λ x b q k. search (rules, tests))
-    ∙ some_block t c.args.file.now c.as_chunks.result.0.now c.as_chunks.ensures.front c.as_chunks.ensures.front_len
+    let all : c.loop-place.place ≡ block_count c.args.file.now = omega arith in
+    sym (ap not (rw all at c.loop-place.invariant.1 t is))
