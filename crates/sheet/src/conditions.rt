@@ -1,12 +1,15 @@
 // The conditions 9, 10, 11, 12 and 7 of the reader.
-ghost use Rattle.std.specs.Prelude.{◌≡◌, ℕ, ◌≤◌, Bool, List, length};
+ghost use Rattle.std.specs.Prelude.{◌≡◌, ℕ, ◌*◌, ◌≤◌, Bool, List, length};
 ghost use Rattle.std.specs.Borrow.{Bor};
 ghost use Rattle.refusal.specs.Number.{number_of};
 ghost use Rattle.blocks.specs.Block.{block_bytes};
-ghost use Rattle.sheet.specs.Read.{some_block_fails, length_wrong, check_wrong, place_wrong, within, layout_wrong, room_wrong, refusal};
+ghost use Rattle.sheet.specs.Layout.{blocks_for};
+ghost use Rattle.sheet.specs.Read.{some_block_fails, length_wrong, check_wrong, place_wrong, within, fixed_wrong, layout_wrong, room_wrong, refusal};
 
 use super::header::{nodes_of, separation_of};
-use super::layout::{MOST_NODES, MOST_SEPARATION, blocks_for, is_laid_out};
+use super::layout::{
+    FIRST_BLOCK, MOST_NODES, MOST_SEPARATION, blocks_for, header_laid, rows_laid, rows_of,
+};
 use blocks::check::is_sound;
 use blocks::{BLOCK_BYTES, Block, block_at, in_place};
 use refusal::Refusal;
@@ -56,6 +59,26 @@ fn is_within(greatest: usize, number: usize) -> bool
     (1..=greatest).contains(&number)
 }
 
+// Whether a word that the layout fixes differs, in any block. The count of nodes that are left is stepped from block to block, so that
+// nothing is multiplied.
+fn fixed_wrong(file: &[u8], nodes: usize) -> bool
+    requires { length file.now ≡ block_bytes * blocks_for nodes }
+    ensures { result ≡ fixed_wrong nodes file.now }
+{
+    if !header_laid(block_at(file, 0)) {
+        return true;
+    }
+    let mut left = nodes;
+    for place in FIRST_BLOCK..file.len() / BLOCK_BYTES {
+        let rows = rows_of(left);
+        if !rows_laid(block_at(file, place), rows) {
+            return true;
+        }
+        left -= rows;
+    }
+    false
+}
+
 // Condition 12.
 fn layout_wrong(file: &[u8]) -> bool
     requires { block_bytes ≤ length file.now }
@@ -66,7 +89,7 @@ fn layout_wrong(file: &[u8]) -> bool
     !is_within(MOST_NODES, nodes)
         || !is_within(MOST_SEPARATION, separation)
         || file.len() != BLOCK_BYTES * blocks_for(nodes)
-        || some_block_fails(file, |place, block| is_laid_out(nodes, place, block))
+        || fixed_wrong(file, nodes)
 }
 
 // Condition 7; `table`, `tapes` and `widths` are the slices' lengths.

@@ -1,7 +1,7 @@
 // The layout of a sheet of n nodes: its blocks, their rows, and the words that are fixed.
 ghost use Rattle.std.specs.Prelude.{◌≡◌, ◌+◌, ◌<◌, ◌≤◌, min};
 ghost use Rattle.blocks.specs.Block.{weighted_place};
-ghost use Rattle.sheet.specs.Layout.{first_word, header_mark, header_words, block_rows, row_word, blocks_for, fixed_hold, laid_out};
+ghost use Rattle.sheet.specs.Layout.{first_word, header_mark, header_words, block_rows, row_word, blocks_for, fixed_hold};
 
 use blocks::{Block, WEIGHTED_PLACE, word};
 
@@ -67,16 +67,4 @@ pub fn rows_laid(block: &Block, rows: usize) -> bool
     ensures { result ≡ fixed_hold rows (row_word rows) block.now }
 {
     fixed_hold(block, rows, FIRST_WORD + ROW_WORDS * rows)
-}
-
-// Whether block `place` of a sheet of so many nodes has every word that the layout fixes.
-pub fn is_laid_out(nodes: usize, place: usize, block: &Block) -> bool
-    ensures { result ≡ laid_out nodes place block.now }
-{
-    if place == 0 {
-        header_laid(block)
-    } else {
-        let left = nodes.saturating_sub(BLOCK_ROWS.saturating_mul(place - 1));
-        rows_laid(block, rows_of(left))
-    }
 }

@@ -1,4 +1,5 @@
-// One block: words stored in it, the low byte first, and the block closed.
+// One block: words stored in it, the low byte first, and the block closed. A block stays a slice here: what a part of the output that is
+// lent as an array leaves behind is told by Rattle's own names alone.
 ghost use Rattle.std.specs.Prelude.{◌≡◌, ◌+◌, ◌*◌, ◌<◌, ◌≤◌, [], ◌∷◌, length};
 ghost use Rattle.blocks.specs.Block.{block_bytes, weighted_place};
 ghost use Rattle.sheet.specs.Layout.{first_word, header_mark, node_word};
