@@ -5,13 +5,14 @@
 ghost use Rattle.std.specs.Prelude.{◌≡◌, ◌+◌, ◌-◌, ◌*◌, ◌≤◌, ◌<◌, pos, length};
 ghost use Rattle.rule.specs.Join.{above0};
 ghost use Rattle.level_order.specs.Fields;
-ghost use Rattle.level_order.specs.Fields.{offset};
 ghost use Rattle.descent.specs.Descent;
 ghost use Rattle.descent.specs.Descent.{Reads, Modest, Looked, Level, Threads, Steps, top_level, lower, too_close, worked, is_end, threaded, new_default};
 
+pub mod by_name;
 mod owner;
 
-use level_order::field::{Field, get, put};
+use level_order::by_name::{get, put};
+use level_order::field::Field;
 use shifts::share;
 
 // The elder siblings of the child at position `child`: they stand from `first` on, and to `default` belong those of their nodes whose ancestor
@@ -37,12 +38,12 @@ pub struct Stand {
     pub moved: i32,
 }
 
-// A field that holds a position or a count.
-pub fn position(work: &[i32], p: usize, field: Field) -> usize
-    requires { Reads work.now (offset field) p }
-    ensures { result ≡ above0 (Fields.get work.now (offset field) p) }
+// An entry that holds a position or a count.
+pub fn position(work: &[i32], p: usize, field: usize) -> usize
+    requires { Reads work.now field p }
+    ensures { result ≡ above0 (Fields.get work.now field p) }
 {
-    get(work, p, field) as usize
+    level_order::field::get(work, p, field) as usize
 }
 
 // The position past the children of position p.
@@ -51,7 +52,7 @@ pub fn past(work: &[i32], p: usize) -> usize
     requires count { Reads work.now Fields.COUNT p }
     ensures { result ≡ above0 (Fields.get work.now Fields.FIRST p) + above0 (Fields.get work.now Fields.COUNT p) }
 {
-    position(work, p, Field::First) + position(work, p, Field::Count)
+    by_name::position(work, p, Field::First) + by_name::position(work, p, Field::Count)
 }
 
 // The top level: the first child, which stands at 0, the last child joined, and the new child, which starts after it at the distance that it
@@ -104,8 +105,8 @@ pub fn ended(work: &[i32], s: Stand) -> bool
     requires { Looked work.now s }
     ensures { result ≡ is_end work.now s }
 {
-    let next = position(work, s.child, Field::First);
-    position(work, s.row, Field::First) == next || next == past(work, s.end - 1)
+    let next = by_name::position(work, s.child, Field::First);
+    by_name::position(work, s.row, Field::First) == next || next == past(work, s.end - 1)
 }
 
 // One level down.
@@ -119,8 +120,8 @@ pub fn descend(work: &[i32], s: Stand) -> Stand
     ensures { result ≡ lower work.now s }
 {
     Stand {
-        row: position(work, s.row, Field::First),
-        child: position(work, s.child, Field::First),
+        row: by_name::position(work, s.row, Field::First),
+        child: by_name::position(work, s.child, Field::First),
         end: past(work, s.end - 1),
         right: s.right + get(work, s.child - 1, Field::Right),
         left: s.left + get(work, s.child, Field::Left),
@@ -150,8 +151,8 @@ pub fn thread(work: &mut [i32], s: Stand, elders: Elders) -> usize
     ensures default { result ≡ new_default work.old s elders.child elders.default }
     ensures threaded { work.new ≡ threaded work.old s }
 {
-    let next = position(work, s.child, Field::First);
-    if position(work, s.row, Field::First) < next {
+    let next = by_name::position(work, s.child, Field::First);
+    if by_name::position(work, s.row, Field::First) < next {
         let step = s.right + get(work, s.child - 1, Field::Right) - (s.outer_right + s.moved);
         put(work, s.end - 1, Field::Right, step);
         return elders.default;

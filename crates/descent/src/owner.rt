@@ -5,7 +5,8 @@ ghost use Rattle.level_order.specs.Fields.{cell};
 ghost use Rattle.descent.specs.Descent.{owner_of};
 
 use crate::Elders;
-use level_order::field::{Field, get};
+use level_order::by_name::get;
+use level_order::field::Field;
 
 // The elder sibling to which position z belongs: its ancestor, or the default where that is out of date.
 pub fn owner(work: &[i32], z: usize, elders: Elders) -> usize

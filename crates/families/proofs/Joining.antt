@@ -24,7 +24,7 @@ use Rattle.level_order.specs.Spaced.{table_of}
 use Rattle.level_order.specs.declared.spaced_tree.SpacedTree.{SpacedTree}
 use Rattle.level_order.proofs.Positions.{Ordered, run, family, run-node, run-nil, laid-run}
 use Rattle.level_order.proofs.InOrder.{ordered}
-use Rattle.level_order.proofs.Fielded.{needed-at, accepted-most}
+use Rattle.level_order.proofs.Fielded.{needed-at}
 use Rattle.level_order.proofs.Occurs.{times_cut}
 use Rattle.contours.specs.Contours.{LeftSteps, RightSteps}
 use Rattle.contours.specs.Rows.{row_drawn, children_drawn}
@@ -38,7 +38,7 @@ use Rattle.families.specs.Joining.{spacing_of, columns_of, occurs, Given, Siblin
 
 -- a spaced tree's distances are no more than the walk can add up
 pub given_of : (s : SpacedTree) → Given (table_of s) (spacing_of s)
-given_of s = record { accepted = s.accepted.accepted; high = λ p q. accepted-most s.accepted _ _; little = s.little }
+given_of s = record { accepted = s.table.well_formed; high = s.high; little = s.little }
 
 pub record Joins (t : List ℕ) (D : Spacing) (f c end default : ℕ) (before : List ℤ) : Type 0 where
   pub given : Given t D

@@ -4,8 +4,10 @@ ghost use Rattle.families.specs.Joining.{spacing_of};
 ghost use Rattle.families.specs.Families.{Ready, FamilyDrawn, Begun, AllJoined};
 
 use super::join::join;
-use descent::{Elders, past, position};
-use level_order::field::{Field, get, put};
+use descent::by_name::position;
+use descent::{Elders, past};
+use level_order::by_name::{get, put};
+use level_order::field::Field;
 use level_order::spaced_tree::SpacedTree;
 use shifts::execute;
 

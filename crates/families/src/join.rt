@@ -4,7 +4,8 @@ ghost use Rattle.level_order.specs.Spaced.{table_of};
 ghost use Rattle.families.specs.Joining.{spacing_of, Rowed, Waiting, Joined};
 
 use descent::{Elders, begin, descend, ended, meet, thread, widened};
-use level_order::field::{Field, put};
+use level_order::by_name::put;
+use level_order::field::Field;
 use level_order::spaced_tree::SpacedTree;
 
 // Joins a child to its elder siblings, and says which child is the default now. Of the tree only the extra space is read, which is added where

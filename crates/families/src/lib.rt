@@ -11,8 +11,10 @@ ghost use Rattle.families.specs.Families.{FamiliesFrom};
 mod family;
 mod join;
 
-use descent::{past, position};
-use level_order::field::{Field, put};
+use descent::by_name::position;
+use descent::past;
+use level_order::by_name::put;
+use level_order::field::Field;
 use level_order::spaced_tree::SpacedTree;
 
 // Gives every position but the root's its offset from its parent, and the root its place 0.

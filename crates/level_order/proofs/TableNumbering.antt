@@ -42,10 +42,7 @@ module _ (t : List ℕ) (separation : ℕ) (hs : List ℕ) where
   abbrev pub need : ℕ → ℕ
   need q = reach_of q + half q
 
-module _ {t : List ℕ} {separation : ℕ} {hs : List ℕ} (G : Accepted t separation hs) where
-  accepted : table_number t ≡ 0
-  accepted = G.accepted
-
+module _ (t : List ℕ) (separation : ℕ) (hs : List ℕ) (accepted : table_number t ≡ 0) where
   abbrev pub tree : Forest
   tree = tree_of t
 
@@ -144,13 +141,13 @@ module _ {t : List ℕ} {separation : ℕ} {hs : List ℕ} (G : Accepted t separ
       record {
         given = G;
         room = omega (arith, room, ap length queue, queued-length before 0 0 0);
-        numbering = table-start G before rooted queue room;
+        numbering = table-start t separation hs G.accepted before rooted queue room;
         reached = refl;
       }
 
   pub loop_end : {work : List ℤ} {p tail reach : ℕ} → 16 * nodes t ≤ length before → Loop t separation hs rooted work p tail reach → nodes t ≤ p
       → NumberedFrom t separation hs before work
-  loop_end room L over = table-end G before rooted queue room L.numbering over
+  loop_end room L over = table-end t separation hs G.accepted before rooted queue room L.numbering over
 
 module _ {t : List ℕ} {separation : ℕ} {hs : List ℕ} {before work : List ℤ} {p tail reach : ℕ} (L : Loop t separation hs before work p tail reach) (more : p < nodes t) where
   -- the position's node is read as z: the node's children fit, and so do the numbers
@@ -171,7 +168,7 @@ module _ {t : List ℕ} {separation : ℕ} {hs : List ℕ} {before work : List �
         fits = unsigned-fits z (node_at (tree_of t) p) node small;
         named = named;
         inside = omega (arith, named, inside);
-        children = omega (arith, ap (λ (v : ℕ). length (children_of t v)) named, table-room L.given L.numbering L.room more);
+        children = omega (arith, ap (λ (v : ℕ). length (children_of t v)) named, table-room t separation hs L.given.accepted L.numbering L.room more);
         narrow = L.given.narrow (nat_abs (stored z));
         high = L.given.high;
         short = omega (arith, L.reached, reaches p);
@@ -181,10 +178,10 @@ module _ {t : List ℕ} {separation : ℕ} {hs : List ℕ} {before work : List �
       few = (accepted-linked t L.given.accepted).few
 
       inside : node_at (tree_of t) p < nodes t
-      inside = node-inside L.given L.numbering L.room more
+      inside = node-inside t separation hs L.given.accepted L.numbering L.room more
 
       node : z ≡ pos (node_at (tree_of t) p)
-      node = read ∙ table-node L.given L.numbering L.room more
+      node = read ∙ table-node t separation hs L.given.accepted L.numbering L.room more
 
       small : node_at (tree_of t) p < 2147483648
       small = omega (arith, inside, few)
@@ -206,6 +203,6 @@ module _ {t : List ℕ} {separation : ℕ} {hs : List ℕ} {before work : List �
       record {
         given = L.given;
         room = L.room;
-        numbering = table_turn L.given L.numbering L.room more K.named A (omega (arith, L.reached, here)) s;
+        numbering = table_turn t separation hs L.given.accepted L.numbering L.room more K.named A (omega (arith, L.reached, here)) s;
         reached = rw add-one (omega (arith, here));
       }

@@ -1,7 +1,7 @@
 // The working slice: sixteen entries for each position. Nothing else computes an index into it.
 ghost use Rattle.std.specs.Prelude.{◌≡◌, ◌<◌, length};
 ghost use Rattle.level_order.specs.Fields;
-ghost use Rattle.level_order.specs.Fields.{cell, offset};
+ghost use Rattle.level_order.specs.Fields.{cell};
 
 // A field of a position, in the order of the stages that write them.
 #[derive(Clone, Copy)]
@@ -20,18 +20,18 @@ pub enum Field {
     Level,
 }
 
-// A field of position p.
-pub fn get(work: &[i32], p: usize, field: Field) -> i32
-    requires { cell p (offset field) < length work.now }
-    ensures { result ≡ Fields.get work.now (offset field) p }
+// An entry of position p.
+pub fn get(work: &[i32], p: usize, field: usize) -> i32
+    requires { cell p field < length work.now }
+    ensures { result ≡ Fields.get work.now field p }
 {
-    work[16 * p + field as usize]
+    work[16 * p + field]
 }
 
-// Writes a field of position p.
-pub fn put(work: &mut [i32], p: usize, field: Field, value: i32)
-    requires { cell p (offset field) < length work.old }
-    ensures { work.new ≡ Fields.put work.old (offset field) p value }
+// Writes an entry of position p.
+pub fn put(work: &mut [i32], p: usize, field: usize, value: i32)
+    requires { cell p field < length work.old }
+    ensures { work.new ≡ Fields.put work.old field p value }
 {
-    work[16 * p + field as usize] = value;
+    work[16 * p + field] = value;
 }

@@ -6,13 +6,15 @@ ghost use Rattle.std.specs.Prelude.{◌≡◌, ◌+◌, ◌*◌, ◌≤◌, ◌<
 ghost use Rattle.tree.specs.Table.{nodes};
 ghost use Rattle.tree.specs.Levels.{children_of};
 ghost use Rattle.level_order.specs.Appending.{queued, settled, Appended};
-ghost use Rattle.level_order.specs.Numbered.{NumberedFrom};
+ghost use Rattle.level_order.specs.Numbered.{Accepted, NumberedFrom};
 ghost use Rattle.level_order.specs.Spaced.{table_of};
 
+pub mod by_name;
 pub mod field;
 pub mod spaced_tree;
 
-use field::{Field, get, put};
+use by_name::{get, put};
+use field::Field;
 use spaced_tree::SpacedTree;
 use tree::Tree;
 
@@ -65,7 +67,8 @@ fn settle(work: &mut [i32], p: usize, first: usize, count: usize, need: u16)
 // Numbers the nodes of an accepted table in level order, with what each needs from the one before it. `reach` is how far the one before
 // reaches: the separation and its half-width.
 pub fn number(tree: &SpacedTree<'_>, work: &mut [i32])
-    requires { 16 * nodes (table_of tree.now) ≤ length work.old }
+    requires accepted { Accepted (table_of tree.now) tree.now.separation tree.now.widths.now }
+    requires room { 16 * nodes (table_of tree.now) ≤ length work.old }
     ensures { NumberedFrom (table_of tree.now) tree.now.separation tree.now.widths.now work.old work.new }
 {
     queue(work, 0, 0, 0);

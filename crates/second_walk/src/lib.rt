@@ -3,11 +3,13 @@
 
 ghost use Rattle.std.specs.Prelude.{◌≡◌, ℕ, pos};
 ghost use Rattle.level_order.specs.Fields as fields;
+ghost use Rattle.level_order.specs.Numbered.{Accepted};
 ghost use Rattle.level_order.specs.Spaced.{table_of};
 ghost use Rattle.second_walk.specs.SecondWalk.{spacing_of, Ready, Descends, descended, Writes, Written, Pairs, Paired, Lengths};
 ghost use Rattle.second_walk.specs.SecondWalk as walk;
 
-use level_order::field::{Field, get, put};
+use level_order::by_name::{get, put};
+use level_order::field::Field;
 use level_order::spaced_tree::SpacedTree;
 
 // How many levels there are, the least and the greatest place, and how many pairs.
@@ -66,6 +68,7 @@ pub fn second_walk(
     measured: &mut [u16],
     work: &mut [i32],
 ) -> Settled
+    requires accepted { Accepted (table_of tree.now) tree.now.separation tree.now.widths.now }
     requires lengths { Lengths (table_of tree.now) places.old levels.old measured.old }
     requires ready { Ready (spacing_of tree.now) (table_of tree.now) work.old }
     ensures { walk.Settled (table_of tree.now) (spacing_of tree.now) places.new levels.new measured.old measured.new work.old work.new result.levels result.least result.greatest result.pairs }

@@ -27,7 +27,6 @@ pub record Pass (f end : ℕ) (before : List ℤ) : Type 0 where
   pub few : end ≤ 1024
   pub room : 16 * end ≤ length before
   pub bounded : Bounded f end before
-  pub last : non_neg (get before PLACE (end - 1)) ≡ true
 
 -- positions p to end are done
 pub record Executing (f end : ℕ) (before : List ℤ) (work : List ℤ) (sum rate : ℤ) (p : ℕ) : Type 0 where
@@ -82,7 +81,7 @@ module _ {f end : ℕ} {before work : List ℤ} {sum rate : ℤ} {q : ℕ} (T : 
   abbrev pub after : List ℤ
   after = put work PLACE q moved
 
-  inside : 16 * suc q ≤ length work
+  pub inside : 16 * suc q ≤ length work
   inside = omega (arith, I.high, I.executed.size, I.given.room)
 
   other : (k j : ℕ) → k < 16 → (j ≡ q → ⊥) → get after k j ≡ get work k j

@@ -8,7 +8,8 @@ ghost use Rattle.level_order.specs.Fields;
 ghost use Rattle.level_order.specs.Fields.{cell, offset};
 ghost use Rattle.shifts.specs.Shifts.{added, shared, Bounded, Executed};
 
-use level_order::field::{Field, get, put};
+use level_order::by_name::{get, put};
+use level_order::field::Field;
 
 // Adds to a field of position p.
 #[tactic(auto, unfolding(crate::specs::Shifts::added))]

@@ -3,13 +3,20 @@ use Rattle.std.proofs.Common.{ℕ, ◌*◌, ◌≤◌, length, replicate, pos, a
 use lib.Seq.{length-take-le}
 use Rattle.tree.specs.Table.{nodes}
 use Rattle.tree.proofs.Stands.{accepted-numbers}
+use Rattle.level_order.proofs.Fielded.{accepted-most}
 use Rattle.layout.proofs.Standing.{ready}
 use Rattle.layout.proofs.Answers.{first_ones, laid-accepted}
 use Rattle.layout.proofs.Stored.{laid-stored}
 use Rattle.layout.proofs.draw.Goals as goal
 
-pub invariant_of-tree-clause-accepted : goal.invariant_of-tree-clause-accepted
-invariant_of-tree-clause-accepted c = first_ones c.requires
+pub invariant_of-tree-clause-high : goal.invariant_of-tree-clause-high
+invariant_of-tree-clause-high c = λ p q. accepted-most (first_ones c.requires) _ _
+
+pub number-requires-clause-accepted : goal.number-requires-clause-accepted
+number-requires-clause-accepted c = first_ones c.requires
+
+pub second_walk-settled-requires-clause-accepted : goal.second_walk-settled-requires-clause-accepted
+second_walk-settled-requires-clause-accepted c = first_ones c.requires
 
 pub second_walk-settled-requires-clause-ready : goal.second_walk-settled-requires-clause-ready
 second_walk-settled-requires-clause-ready c =

@@ -5,10 +5,10 @@ use Rattle.level_order.proofs.TableNumbering.{loop_start, loop_end, loop_next, t
 use Rattle.level_order.proofs.number.Goals as goal
 
 pub queue-requires-clause-room : goal.queue-requires-clause-room
-queue-requires-clause-room c = omega (arith, c.requires, (accepted-linked _ c.args.tree.now.accepted.accepted).some)
+queue-requires-clause-room c = omega (arith, c.requires.room, (accepted-linked _ c.requires.accepted.accepted).some)
 
 pub loop-p-init : goal.loop-p-init
-loop-p-init c = loop_start c.args.tree.now.accepted c.args.work.now c.queue.ensures c.requires
+loop-p-init c = loop_start c.requires.accepted c.args.work.now c.queue.ensures c.requires.room
 
 pub overflow_cast-v : goal.overflow_cast-v
 overflow_cast-v c = (taken c.loop-p.invariant (omega (arith, c.loop-p-test.true, c.nodes-p-end.ensures)) c.get-v.ensures).fits
@@ -20,7 +20,7 @@ pub append-end-requires-clause-children : goal.append-end-requires-clause-childr
 append-end-requires-clause-children c = (taken c.loop-p.invariant (omega (arith, c.loop-p-test.true, c.nodes-p-end.ensures)) c.get-v.ensures).children
 
 pub bounds-tree-v : goal.bounds-tree-v
-bounds-tree-v c = omega (arith, (taken c.loop-p.invariant (omega (arith, c.loop-p-test.true, c.nodes-p-end.ensures)) c.get-v.ensures).inside, c.args.tree.now.accepted.each)
+bounds-tree-v c = omega (arith, (taken c.loop-p.invariant (omega (arith, c.loop-p-test.true, c.nodes-p-end.ensures)) c.get-v.ensures).inside, c.requires.accepted.each)
 
 pub settle-requires-clause-position : goal.settle-requires-clause-position
 settle-requires-clause-position c = omega (arith, c.loop-p-test.true, c.nodes-p-end.ensures, (taken c.loop-p.invariant (omega (arith, c.loop-p-test.true, c.nodes-p-end.ensures)) c.get-v.ensures).few)
@@ -39,4 +39,4 @@ pub loop-p-preserved : goal.loop-p-preserved
 loop-p-preserved c = loop_next c.loop-p.invariant (omega (arith, c.loop-p-test.true, c.nodes-p-end.ensures)) c.get-v.ensures c.append-end.ensures c.settle.ensures
 
 pub returns : goal.returns
-returns c = loop_end c.args.tree.now.accepted c.args.work.now c.queue.ensures c.requires c.loop-p.invariant (omega (arith, c.loop-p-test.false, c.nodes-p-end.ensures))
+returns c = loop_end c.requires.accepted c.args.work.now c.queue.ensures c.requires.room c.loop-p.invariant (omega (arith, c.loop-p-test.false, c.nodes-p-end.ensures))

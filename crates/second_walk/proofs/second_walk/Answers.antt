@@ -9,17 +9,17 @@ use Rattle.second_walk.proofs.Settling.{settle-start, writes, pairs_with, settle
 use Rattle.second_walk.proofs.second_walk.Goals as goal
 
 pub slice_set_of-places : goal.slice_set_of-places
-slice_set_of-places c = let n = accepted-numbers _ c.args.tree.now.accepted.accepted in omega arith
+slice_set_of-places c = let n = accepted-numbers _ c.requires.accepted.accepted in omega arith
 
 pub bounds-levels-0 : goal.bounds-levels-0
-bounds-levels-0 c = let n = accepted-numbers _ c.args.tree.now.accepted.accepted in omega arith
+bounds-levels-0 c = let n = accepted-numbers _ c.requires.accepted.accepted in omega arith
 
 pub put-requires : goal.put-requires
-put-requires c = let n = accepted-numbers _ c.args.tree.now.accepted.accepted in omega arith
+put-requires c = let n = accepted-numbers _ c.requires.accepted.accepted in omega arith
 
 pub loop-p-init : goal.loop-p-init
 loop-p-init c =
-    let given = c.args.tree.now.accepted in
+    let given = c.requires.accepted in
     settle-start given.accepted (accepted-most given) c.args.tree.now.little c.requires.lengths c.requires.ready c.put.ensures
 
 -- ---- a turn, which descends to position p
