@@ -96,7 +96,7 @@ fn close(block: &mut [u8])
     let sums = sums_of(block);
     let sum = sums.plain.wrapping_add(sums.weighted);
     put(block, WEIGHTED_PLACE, sums.weighted);
-    put(block, CLOSING_PLACE, sum.wrapping_neg());
+    put(block, CLOSING_PLACE, 0u16.wrapping_sub(sum));
 }
 
 // Writes the header, block 0: n and D.
