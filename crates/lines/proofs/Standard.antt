@@ -1,5 +1,5 @@
 -- The decimal digits are those that the standard library prints. Assumes nothing.
-use Rattle.std.proofs.Common.{◌≡◌, ℕ, suc, ◌%◌, ◌/◌, ◌^◌, ◌≤◌, ◌<◌, List, [], ◌∷◌, ◌++◌, ℤ, pos, negsuc, sym, ap, ◌∙◌, arith}
+use Rattle.std.proofs.Common.{◌≡◌, ℕ, zero, suc, ◌%◌, ◌/◌, ◌^◌, ◌≤◌, ◌<◌, List, [], ◌∷◌, ◌++◌, ℤ, pos, negsuc, sym, ap, ◌∙◌, arith}
 use Rattle.std.specs.Fmt as fmt
 use Rattle.std.proofs.lemmas.Fmt.{decimal_digit, decimal_step}
 use mir.Syntax.{w32}
@@ -20,4 +20,5 @@ decimal_standard = by-tens (λ n. n < 2 ^ 64 → decimal n ≡ fmt.decimal n) sm
 pub signed_decimal_standard : (z : ℤ) → SFits w32 z → signed_decimal z ≡ fmt.signed_decimal z
 unfolding signed_decimal
 signed_decimal_standard (pos n) h = decimal_standard n (omega arith)
-signed_decimal_standard (negsuc n) h = ap (λ (l : List ℕ). minus ∷ l) (decimal_standard (suc n) (omega arith))
+signed_decimal_standard (negsuc zero) h = ap (λ (l : List ℕ). minus ∷ l) (decimal_standard 1 (omega arith))
+signed_decimal_standard (negsuc (suc n)) h = ap (λ (l : List ℕ). minus ∷ l) (decimal_standard (suc (suc n)) (omega arith))

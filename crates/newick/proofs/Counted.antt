@@ -142,7 +142,7 @@ at_most-cond k true x y p q = p
 at_most-cond k false x y p q = q
 
 -- a byte adds one at most
-counts_step : (scan : Scan) (byte : ℕ) → IfSome (step scan byte) (λ next. counts next ≤ counts scan + 1)
+pub counts_step : (scan : Scan) (byte : ℕ) → IfSome (step scan byte) (λ next. counts next ≤ counts scan + 1)
 unfolding step
 counts_step (Due depth nodes) byte =
     at_most-cond _ (eqb byte opening) _ _ (omega arith) (at_most-cond _ (is_digit byte) _ _ (omega arith) tt)

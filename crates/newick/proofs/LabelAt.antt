@@ -57,7 +57,7 @@ pub record DigitTurn (text : List ℕ) (at value end : ℕ) : Type 0 where
   pub again : Passed text at (10 * value + (get_or text end 0 - zero_byte)) (end + 1)
 
 module _ (text : List ℕ) (at value end : ℕ) (here : LabelHere text at) (passed : Passed text at value end) where
-  passed-within : end < length text
+  pub passed-within : end < length text
   passed-within = omega (arith, here.ends, passed.1)
 
   pub passed_turn : is_digit (get_or text end 0) ≡ true → DigitTurn text at value end

@@ -56,4 +56,4 @@ returns-in-Err-clause-printed c =
     let a = c.args in
     let q = c.requires in
     refused-listed a.table.now a.separation a.widths.now c.in-Err.ensures q.le_separation q.separation_bound ample a.tapes.now
-    q.text_room_in_bounds (number-nonzero c.in-Err.refused) c.number.ensures c.write_refusal.ensures.printed
+    q.text_room_in_bounds (number-nonzero c.in-Err.refused) (omega (arith, c.number.ensures)) c.write_refusal.ensures.printed
