@@ -6,6 +6,7 @@ Usage: tools/changes.py COMMIT
 """
 
 import glob
+import itertools
 import os
 import re
 import subprocess
@@ -18,7 +19,7 @@ def one_line(text):
 
 
 def functions(root):
-    """(crate, name): whether it is public, its signature and its clauses."""
+    """(crate, name): of each such function whether it is public, its signature and its clauses."""
     found = {}
     for path in sorted(glob.glob(f"{root}/crates/*/src/*.rt")):
         crate = path[len(root) + 8 :].split("/")[0]
@@ -50,7 +51,7 @@ def functions(root):
                 for kind, name, fact in re.findall(clause, head)
             ]
             name = (owner + "::" if indent and owner else "") + match.group(6)
-            found[crate, name] = (bool(match.group(4)), signature, clauses)
+            found.setdefault((crate, name), []).append((bool(match.group(4)), signature, clauses))
     return found
 
 
@@ -104,9 +105,11 @@ def main():
         old, new = functions(before), functions(".")
         print("## Public functions\n")
         for key in sorted(old.keys() | new.keys()):
-            (was, *a), (now, *b) = old.get(key, (False, None, [])), new.get(key, (False, None, []))
-            if (was or now) and a != b:
-                show("::".join(key), [x for x in [a[0], *a[1]] if x], [x for x in [b[0], *b[1]] if x])
+            gone = [entry for entry in old.get(key, []) if entry not in new.get(key, [])]
+            came = [entry for entry in new.get(key, []) if entry not in old.get(key, [])]
+            for (was, *a), (now, *b) in itertools.zip_longest(gone, came, fillvalue=(False, None, [])):
+                if (was or now) and a != b:
+                    show("::".join(key), [x for x in [a[0], *a[1]] if x], [x for x in [b[0], *b[1]] if x])
 
         old, new = declarations(before, "specs"), declarations(".", "specs")
         print("## Definitions\n")
